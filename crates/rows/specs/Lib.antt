@@ -1,0 +1,4 @@
+pub mod Refusals
+pub mod Points
+pub mod Prices
+pub mod Packed

@@ -1,0 +1,54 @@
+ghost use mathlib.Core.Path.{_≡_};
+ghost use Rattle.rows.specs.Refusals.{number as numbered};
+
+/// Why a call is refused. `Fault::number` gives each its number in the table of refusals.
+#[derive(Clone, Copy, PartialEq, Eq, Debug)]
+pub enum Fault {
+    /// a length is not the dimension
+    Length,
+    /// a byte of a row of marks is above 1
+    Mark,
+    /// the weight of the price row is above the reach
+    Weight,
+    /// the point is not a member
+    NotMember,
+    /// the dimension is above 128
+    Dimension,
+    /// there are more entries than a making takes
+    TooMany,
+    /// the reach is above 2^40 − 1
+    Reach,
+    /// a number is not below its count, or a packed point has a bit from the dimension on
+    OutOfRange,
+    /// the job has begun already
+    Begun,
+    /// the job has not begun
+    NotBegun,
+}
+
+impl Fault {
+    /// The fault's number in the table of refusals.
+    pub fn number(self) -> u8
+        ensures { λ r. ⌜ r ≡ numbered self ⌝ }
+    {
+        match self {
+            Fault::Length => 1,
+            Fault::Mark => 2,
+            Fault::Weight => 3,
+            Fault::NotMember => 4,
+            Fault::Dimension => 5,
+            Fault::TooMany => 6,
+            Fault::Reach => 7,
+            Fault::OutOfRange => 8,
+            Fault::Begun => 11,
+            Fault::NotBegun => 12,
+        }
+    }
+}
+
+/// A refused call: why, and where; the place is 0 unless the table of refusals names one.
+#[derive(Clone, Copy, PartialEq, Eq, Debug)]
+pub struct Refusal {
+    pub fault: Fault,
+    pub place: usize,
+}
