@@ -109,12 +109,18 @@ from-more xs b (suc j) s m d h k es em ed =
     subst (λ (z : ℕ). 2 * s + d ≡ from-digit xs b z) (sym e) r
 
 packed-byte : (xs : List ℕ) (b : ℕ) → b < 16 → getD (packed xs) b 0 ≡ byte-of xs b
+unfolding packed
 packed-byte xs b h = getD-map-counting (byte-of xs) 0 16 b b 0 h (omega arith)
 
 bit-packed : (xs : List ℕ) (i : ℕ) → i < 128 → bit-at (packed xs) i ≡ digit (getD xs i 0)
 bit-packed xs i h =
     ap (λ (z : ℕ). z / 2 ^ (i % 8) % 2) (packed-byte xs (i / 8) (omega arith)) ∙
     byte-digit xs (i / 8) (i % 8) (omega arith) ∙ ap (λ (z : ℕ). digit (getD xs z 0)) (omega arith)
+
+-- sixteen bytes that are those of xs
+pub packed-is : (xs bs : List ℕ) → length bs ≡ 16 → ((b : ℕ) → b < 16 → getD bs b 0 ≡ byte-of xs b) → bs ≡ packed xs
+unfolding packed
+packed-is xs bs l h = fill-by-all (byte-of xs) bs 16 0 l h
 
 pub unpacked-packed : (n : ℕ) (xs : List ℕ) → n ≤ 128 → Point n xs → unpacked n (packed xs) ≡ xs
 unpacked-packed n xs h p =
@@ -139,7 +145,7 @@ unpacked-digit n bs i c =
 
 pub packed-unpacked : (n : ℕ) (bs : List ℕ) → length bs ≡ 16 → ((b : ℕ) → b < 16 → getD bs b 0 < 2 ^ 8) → Clear-from n bs → packed (unpacked n bs) ≡ bs
 packed-unpacked n bs l f c =
-    sym (fill-by-all (byte-of xs) bs 16 0 l (λ b h.
+    sym (packed-is xs bs l (λ b h.
       same-digits 8 (getD bs b 0) (byte-of xs b) (f b h) (byte-small xs b) (λ j g.
         sym (byte-digit xs b j g ∙ unpacked-digit n bs (8 * b + j) c ∙ here b j g))))
   where

@@ -29,7 +29,7 @@ abbrev pub byte-of : List ℕ → ℕ → ℕ
 byte-of xs b = value (take 8 (drop (8 * b) xs))
 
 -- a row of marks packed; coordinates from 128 on are left out
-abbrev pub packed : List ℕ → List ℕ
+unfoldable pub packed : List ℕ → List ℕ
 packed xs = map (byte-of xs) (counting 0 16)
 
 -- no bit from coordinate n on is set

@@ -5,11 +5,11 @@ ghost use lib.ListN.{length, getD, take, replicate};
 ghost use Rattle.std.specs.Options.{Cases as BySome};
 ghost use Rattle.rows.specs.Points.{Marks, Bad-mark};
 
-/// The largest dimension, and so the length of a padded row.
-pub const LARGEST: usize = 128;
+/// The largest dimension.
+pub const LARGEST_DIMENSION: usize = 128;
 
-/// A row kept at the start of an array of the largest dimension.
-pub type Padded<T> = [T; 128];
+/// A row of at most the largest dimension, at the start of an array of that length.
+pub type Padded<T> = [T; LARGEST_DIMENSION];
 
 /// The index of the first byte above 1, if there is one.
 pub fn bad_mark(row: &[u8]) -> Option<usize>
@@ -23,12 +23,12 @@ pub fn bad_mark(row: &[u8]) -> Option<usize>
     None
 }
 
-/// A row at the start of an array, followed by `fill`; what is beyond 128 entries is left out.
-pub fn padded<T: Copy>(row: &[T], fill: T) -> Padded<T>
-    ensures { λ r. ⌜ r ≡ take 128 (now (row .entry) ++ replicate 128 fill) ⌝ }
+/// A row at the start of an array, followed by `fill`; entries that the array has no place for are left out.
+pub fn padded<T: Copy, const N: usize>(row: &[T], fill: T) -> [T; N]
+    ensures { λ r. ⌜ r ≡ take N (now (row .entry) ++ replicate N fill) ⌝ }
 {
-    let mut r = [fill; 128];
-    for i in 0..row.len().min(128) {
+    let mut r = [fill; N];
+    for i in 0..row.len().min(N) {
         r[i] = row[i];
     }
     r

@@ -2,9 +2,8 @@ use native.Mathlib.Omega.{arith}
 use mathlib.Core.Path.{_≡_, ap, _∙_}
 use Prim.Native.Nat.{ℕ, _<_}
 use lib.ListN.{length, getD, length-set}
-use Rattle.std.proofs.shelf.Counted.{fill-by-all}
 use Rattle.rows.specs.Packed.{unpacked, byte-of, packed}
-use Rattle.rows.proofs.Packing.{filled-more, unpacked-packed}
+use Rattle.rows.proofs.Packing.{filled-more, packed-is, unpacked-packed}
 use Rattle.rows.proofs.packed.pack.Needs as need
 
 pub loop-b-again : need.loop-b-again
@@ -15,7 +14,7 @@ loop-b-again c =
 pub returns : need.returns
 returns c =
     let e : c .loop-b .bytes ≡ packed (c .args .row .now) =
-        fill-by-all (byte-of (c .args .row .now)) (c .loop-b .bytes) 16 0 (c .loop-b .inv .0) (λ k h. c .loop-b .inv .1 k (omega arith)) in
+        packed-is (c .args .row .now) (c .loop-b .bytes) (c .loop-b .inv .0) (λ k h. c .loop-b .inv .1 k (omega arith)) in
     record {
       is = e;
       inverse = λ n h p. ap (λ bs. unpacked n bs) e ∙ unpacked-packed n (c .args .row .now) h p;
