@@ -1,3 +1,4 @@
 pub mod Packing
 pub mod Padding
 pub mod Planes
+pub mod Checks

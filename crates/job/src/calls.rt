@@ -1,0 +1,132 @@
+ghost use mathlib.Core.Path.{_≡_};
+ghost use Prim.Native.Nat.{ℕ, _<_, _≤_};
+ghost use lib.ListN.{length, take};
+ghost use Rattle.rows.specs.Prices.{planes};
+ghost use Rattle.job.specs.declared.parts.State.the-variants.{Open};
+ghost use Rattle.job.specs.Views.{blank, blank-ledger, opened, counted, accepted};
+ghost use Rattle.job.specs.Calls.{Began, Advanced};
+
+ghost use Rattle.job.specs.Jobs.{view};
+
+use crate::job::Job;
+use crate::parts::Ledger;
+use crate::parts::Line;
+use crate::parts::State;
+use crate::parts::Step;
+use crate::parts::Totals;
+use crate::question::put;
+use augmenter::Augmenter;
+use augmenter::shared_checks;
+use rows::points::padded;
+use rows::prices::planes;
+use rows::refusals::Fault;
+use rows::refusals::Refusal;
+
+/// A ledger with nothing on its lines.
+fn blank_ledger() -> Ledger
+    ensures { λ r. ⌜ r .lines ≡ blank-ledger ⌝ }
+{
+    Ledger { lines: [Line { asked: 0, improved: 0 }; 40] }
+}
+
+/// The state with this many planes to go.
+fn opening(count: u32) -> State
+    requires { ⌜ count ≤ 40 ⌝ }
+    ensures is { λ r. ⌜ r ≡ opened count ⌝ }
+    ensures low { λ r. ⌜ ((k j : ℕ) → r ≡ Open k j → k < 40) ⌝ }
+{
+    if count == 0 {
+        State::Finished
+    } else {
+        State::Open { plane: count - 1, improved: 0 }
+    }
+}
+
+/// Counts one question more on a line, and one improvement more where it found something.
+fn count(line: &mut Line, found: bool)
+    ensures { λ _. ⌜ now (line .exit) ≡ counted found (now (line .entry)) ⌝ }
+{
+    line.asked = line.asked.saturating_add(1);
+    if found {
+        line.improved = line.improved.saturating_add(1);
+    }
+}
+
+impl<A: Augmenter> Job<A> {
+    /// A job over an augmenter, with a number of the maker's; it has not begun.
+    pub fn new(below: A, number: u32) -> Job<A>
+        ensures fresh { λ r. ⌜ view dim r ≡ blank number (dim below) ⌝ }
+        ensures below { λ r. ⌜ r .below ≡ below ⌝ }
+    {
+        Job {
+            below,
+            number,
+            state: State::NotBegun,
+            point: [0; 128],
+            prices: [0; 128],
+            totals: Totals { asked: 0, improved: 0, closed: 0, rows: 0 },
+            ledger: blank_ledger(),
+        }
+    }
+
+    /// Makes the prices the present row: the top plane opens, or the job is finished where the row has none.
+    fn accept(&mut self, prices: &[i64])
+        requires long { ⌜ length (now prices) ≡ dim (now self .below) ⌝ }
+        requires low { ⌜ planes (now prices) ≤ 40 ⌝ }
+        ensures below { λ _. ⌜ now (self .exit) .below ≡ now (self .entry) .below ⌝ }
+        ensures after { λ _. ⌜ view dim (now (self .exit)) ≡ accepted (view dim (now (self .entry))) (take (dim (now (self .entry) .below)) (now (self .entry) .point)) (now (prices .entry)) ⌝ }
+    {
+        self.prices = padded(prices, 0);
+        self.totals.rows = self.totals.rows.saturating_add(1);
+        self.state = opening(planes(prices));
+        self.ledger = blank_ledger();
+    }
+
+    /// Begins with a start, which must be a member, and a price row.
+    pub fn begin(&mut self, start: &[u8], prices: &[i64]) -> Result<(), Refusal>
+        ensures below { λ _. ⌜ now (self .exit) .below ≡ now (self .entry) .below ⌝ }
+        ensures moves { λ r. ⌜ Began (dim (now (self .entry) .below)) (reaches (now (self .entry) .below)) (Member (now (self .entry) .below)) (view dim (now (self .entry))) (now (start .entry)) (now (prices .entry)) r (view dim (now (self .exit))) ⌝ }
+    {
+        let State::NotBegun = self.state else {
+            return Err(Refusal { fault: Fault::Begun, place: 0 });
+        };
+        let n = self.below.dimension();
+        shared_checks(n, self.below.reach(), prices, start, n)?;
+        if !self.below.belongs(start) {
+            return Err(Refusal { fault: Fault::NotMember, place: 0 });
+        }
+        self.point = padded(start, 0);
+        self.accept(prices);
+        Ok(())
+    }
+
+    /// Puts one question with the row at the open plane: the point is improved, or the plane is closed.
+    pub fn advance(&mut self) -> Result<Step, Refusal>
+        ensures below { λ _. ⌜ now (self .exit) .below ≡ now (self .entry) .below ⌝ }
+        ensures moves { λ r. ⌜ Advanced (dim (now (self .entry) .below)) (reaches (now (self .entry) .below)) (Member (now (self .entry) .below)) (view dim (now (self .entry))) r (view dim (now (self .exit))) ⌝ }
+    {
+        let at = match self.state {
+            State::NotBegun => return Err(Refusal { fault: Fault::NotBegun, place: 0 }),
+            State::Finished => return Ok(Step::Done),
+            State::Open { plane, .. } => plane,
+        };
+        let answer = put(&self.below, &self.prices, &self.point, at)?;
+        self.totals.asked = self.totals.asked.saturating_add(1);
+        match (self.state, answer) {
+            (State::Open { plane, improved }, Some(next)) => {
+                self.point = next;
+                self.state = State::Open { plane, improved: improved.saturating_add(1) };
+                self.totals.improved = self.totals.improved.saturating_add(1);
+                count(&mut self.ledger.lines[at as usize], true);
+                Ok(Step::Improved)
+            }
+            (State::Open { plane, .. }, None) => {
+                self.state = opening(plane);
+                self.totals.closed = self.totals.closed.saturating_add(1);
+                count(&mut self.ledger.lines[at as usize], false);
+                Ok(Step::Closed)
+            }
+            _ => unreachable(),
+        }
+    }
+}

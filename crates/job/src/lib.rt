@@ -1,0 +1,7 @@
+//! The job: a point improved plane by plane under a price row, until no member is cheaper.
+
+pub mod calls;
+pub mod job;
+pub mod parts;
+mod question;
+pub mod reads;
