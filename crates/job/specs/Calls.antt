@@ -38,6 +38,12 @@ Put n R M ps x (Err e) = Refused-by (checks n R M ps x n) e
 abbrev pub question-checks : ℕ → ℕ → (List ℕ → Type 0) → View → ℕ → List Check
 question-checks n R M a k = checks n R M (row-at k (a .prices)) (a .point) n
 
+-- plane k is open
+abbrev pub Opens : State → ℕ → Type 0
+Opens NotBegun k = ⊥
+Opens (Open i j) k = i ≡ k
+Opens Finished k = ⊥
+
 -- advance, by the state before it
 abbrev pub Advanced-from : ℕ → ℕ → (List ℕ → Type 0) → View → State → Result Step Refusal → View → Type 0
 Advanced-from n R M a NotBegun (Ok _) b = ⊥

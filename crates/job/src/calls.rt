@@ -1,11 +1,11 @@
 ghost use mathlib.Core.Path.{_≡_};
 ghost use Prim.Native.Nat.{ℕ, _<_, _≤_};
-ghost use lib.ListN.{length, take};
+ghost use lib.ListN.{length, take, replicate};
 ghost use Rattle.rows.specs.Prices.{planes};
 ghost use Rattle.job.specs.declared.parts.State.the-variants.{Open};
 ghost use Rattle.job.specs.Views.{blank, blank-ledger, opened, counted, accepted};
-ghost use Rattle.job.specs.Calls.{Began, Advanced};
-
+ghost use Rattle.job.specs.Calls.{Opens, Began, Advanced};
+ghost use Rattle.job.specs.Soundness.{Sound, Begin-keeps, Advance-keeps};
 ghost use Rattle.job.specs.Jobs.{view};
 
 use crate::job::Job;
@@ -17,10 +17,18 @@ use crate::parts::Totals;
 use crate::question::put;
 use augmenter::Augmenter;
 use augmenter::shared_checks;
+use rows::points::Padded;
 use rows::points::padded;
 use rows::prices::planes;
 use rows::refusals::Fault;
 use rows::refusals::Refusal;
+
+/// An array of zeros, to keep a row in.
+fn zeros<T: Copy>(zero: T) -> Padded<T>
+    ensures { λ r. ⌜ ((n : ℕ) → n ≤ 128 → take n r ≡ replicate n zero) ⌝ }
+{
+    [zero; 128]
+}
 
 /// A ledger with nothing on its lines.
 fn blank_ledger() -> Ledger
@@ -57,13 +65,14 @@ impl<A: Augmenter> Job<A> {
     pub fn new(below: A, number: u32) -> Job<A>
         ensures fresh { λ r. ⌜ view dim r ≡ blank number (dim below) ⌝ }
         ensures below { λ r. ⌜ r .below ≡ below ⌝ }
+        ensures sound { λ r. ⌜ Sound (dim below) (reaches below) (Member below) (view dim r) ⌝ }
     {
         Job {
             below,
             number,
             state: State::NotBegun,
-            point: [0; 128],
-            prices: [0; 128],
+            point: zeros(0),
+            prices: zeros(0),
             totals: Totals { asked: 0, improved: 0, closed: 0, rows: 0 },
             ledger: blank_ledger(),
         }
@@ -86,6 +95,7 @@ impl<A: Augmenter> Job<A> {
     pub fn begin(&mut self, start: &[u8], prices: &[i64]) -> Result<(), Refusal>
         ensures below { λ _. ⌜ now (self .exit) .below ≡ now (self .entry) .below ⌝ }
         ensures moves { λ r. ⌜ Began (dim (now (self .entry) .below)) (reaches (now (self .entry) .below)) (Member (now (self .entry) .below)) (view dim (now (self .entry))) (now (start .entry)) (now (prices .entry)) r (view dim (now (self .exit))) ⌝ }
+        ensures keeps { λ r. ⌜ (Sound (dim (now (self .entry) .below)) (reaches (now (self .entry) .below)) (Member (now (self .entry) .below)) (view dim (now (self .entry))) → Begin-keeps (dim (now (self .entry) .below)) (reaches (now (self .entry) .below)) (Member (now (self .entry) .below)) (now (prices .entry)) r (view dim (now (self .exit)))) ⌝ }
     {
         let State::NotBegun = self.state else {
             return Err(Refusal { fault: Fault::Begun, place: 0 });
@@ -104,12 +114,21 @@ impl<A: Augmenter> Job<A> {
     pub fn advance(&mut self) -> Result<Step, Refusal>
         ensures below { λ _. ⌜ now (self .exit) .below ≡ now (self .entry) .below ⌝ }
         ensures moves { λ r. ⌜ Advanced (dim (now (self .entry) .below)) (reaches (now (self .entry) .below)) (Member (now (self .entry) .below)) (view dim (now (self .entry))) r (view dim (now (self .exit))) ⌝ }
+        ensures keeps { λ r. ⌜ (Sound (dim (now (self .entry) .below)) (reaches (now (self .entry) .below)) (Member (now (self .entry) .below)) (view dim (now (self .entry))) → Advance-keeps (dim (now (self .entry) .below)) (reaches (now (self .entry) .below)) (Member (now (self .entry) .below)) (view dim (now (self .entry))) r (view dim (now (self .exit)))) ⌝ }
     {
-        let at = match self.state {
-            State::NotBegun => return Err(Refusal { fault: Fault::NotBegun, place: 0 }),
-            State::Finished => return Ok(Step::Done),
-            State::Open { plane, .. } => plane,
-        };
+        match self.state {
+            State::NotBegun => Err(Refusal { fault: Fault::NotBegun, place: 0 }),
+            State::Open { plane, .. } => self.ask(plane),
+            State::Finished => Ok(Step::Done),
+        }
+    }
+
+    /// Puts the question of the open plane, counts it, and takes over what it found or closes the plane.
+    fn ask(&mut self, at: u32) -> Result<Step, Refusal>
+        requires { ⌜ Opens (now self .state) at ⌝ }
+        ensures below { λ _. ⌜ now (self .exit) .below ≡ now (self .entry) .below ⌝ }
+        ensures moves { λ r. ⌜ Advanced (dim (now (self .entry) .below)) (reaches (now (self .entry) .below)) (Member (now (self .entry) .below)) (view dim (now (self .entry))) r (view dim (now (self .exit))) ⌝ }
+    {
         let answer = put(&self.below, &self.prices, &self.point, at)?;
         self.totals.asked = self.totals.asked.saturating_add(1);
         match (self.state, answer) {

@@ -88,7 +88,8 @@ pub fn remainders(prices: &[i64], plane: u32) -> u128
 
 /// The ones below a plane: the one bits of the magnitudes' remainders by 2^plane.
 pub fn ones_below(prices: &[i64], plane: u32) -> u128
-    ensures { λ r. ⌜ r ≡ ones-below plane (now (prices .entry)) ⌝ }
+    ensures is { λ r. ⌜ r ≡ ones-below plane (now (prices .entry)) ⌝ }
+    ensures few { λ r. ⌜ r ≤ length (now (prices .entry)) * 64 ⌝ }
 {
     let mut sum: u128 = 0;
     for p in prices {

@@ -24,4 +24,4 @@ loop-p-again c =
     (omega arith, search (needs, ones-le 64 (c .remainder .result)))
 
 pub returns : need.returns
-returns c = grind (arith, take-all)
+returns c = record { is = grind (arith, take-all); few = search needs }
