@@ -4,9 +4,8 @@ ghost use lib.ListN.{length, take, replicate};
 ghost use Rattle.rows.specs.Prices.{planes};
 ghost use Rattle.job.specs.declared.parts.State.the-variants.{Open};
 ghost use Rattle.job.specs.Views.{blank, blank-ledger, opened, counted, accepted};
-ghost use Rattle.job.specs.Calls.{Opens, Began, Advanced};
-ghost use Rattle.job.specs.Soundness.{Sound, Begin-keeps, Advance-keeps};
-ghost use Rattle.job.specs.Jobs.{view};
+ghost use Rattle.job.specs.Calls.{Opens};
+ghost use Rattle.job.specs.Jobs.{view, Sound-job, Began-by, Begin-keeps-by, Advanced-by, Advance-keeps-by};
 
 use crate::job::Job;
 use crate::parts::Ledger;
@@ -65,7 +64,7 @@ impl<A: Augmenter> Job<A> {
     pub fn new(below: A, number: u32) -> Job<A>
         ensures fresh { λ r. ⌜ view dim r ≡ blank number (dim below) ⌝ }
         ensures below { λ r. ⌜ r .below ≡ below ⌝ }
-        ensures sound { λ r. ⌜ Sound (dim below) (reaches below) (Member below) (view dim r) ⌝ }
+        ensures sound { λ r. ⌜ Sound-job dim reaches Member r ⌝ }
     {
         Job {
             below,
@@ -94,8 +93,8 @@ impl<A: Augmenter> Job<A> {
     /// Begins with a start, which must be a member, and a price row.
     pub fn begin(&mut self, start: &[u8], prices: &[i64]) -> Result<(), Refusal>
         ensures below { λ _. ⌜ now (self .exit) .below ≡ now (self .entry) .below ⌝ }
-        ensures moves { λ r. ⌜ Began (dim (now (self .entry) .below)) (reaches (now (self .entry) .below)) (Member (now (self .entry) .below)) (view dim (now (self .entry))) (now (start .entry)) (now (prices .entry)) r (view dim (now (self .exit))) ⌝ }
-        ensures keeps { λ r. ⌜ (Sound (dim (now (self .entry) .below)) (reaches (now (self .entry) .below)) (Member (now (self .entry) .below)) (view dim (now (self .entry))) → Begin-keeps (dim (now (self .entry) .below)) (reaches (now (self .entry) .below)) (Member (now (self .entry) .below)) (now (prices .entry)) r (view dim (now (self .exit)))) ⌝ }
+        ensures moves { λ r. ⌜ Began-by dim reaches Member (now (self .entry)) (now (start .entry)) (now (prices .entry)) r (now (self .exit)) ⌝ }
+        ensures keeps { λ r. ⌜ Begin-keeps-by dim reaches Member (now (self .entry)) (now (prices .entry)) r (now (self .exit)) ⌝ }
     {
         let State::NotBegun = self.state else {
             return Err(Refusal { fault: Fault::Begun, place: 0 });
@@ -113,8 +112,8 @@ impl<A: Augmenter> Job<A> {
     /// Puts one question with the row at the open plane: the point is improved, or the plane is closed.
     pub fn advance(&mut self) -> Result<Step, Refusal>
         ensures below { λ _. ⌜ now (self .exit) .below ≡ now (self .entry) .below ⌝ }
-        ensures moves { λ r. ⌜ Advanced (dim (now (self .entry) .below)) (reaches (now (self .entry) .below)) (Member (now (self .entry) .below)) (view dim (now (self .entry))) r (view dim (now (self .exit))) ⌝ }
-        ensures keeps { λ r. ⌜ (Sound (dim (now (self .entry) .below)) (reaches (now (self .entry) .below)) (Member (now (self .entry) .below)) (view dim (now (self .entry))) → Advance-keeps (dim (now (self .entry) .below)) (reaches (now (self .entry) .below)) (Member (now (self .entry) .below)) (view dim (now (self .entry))) r (view dim (now (self .exit)))) ⌝ }
+        ensures moves { λ r. ⌜ Advanced-by dim reaches Member (now (self .entry)) r (now (self .exit)) ⌝ }
+        ensures keeps { λ r. ⌜ Advance-keeps-by dim reaches Member (now (self .entry)) r (now (self .exit)) ⌝ }
     {
         match self.state {
             State::NotBegun => Err(Refusal { fault: Fault::NotBegun, place: 0 }),
@@ -127,7 +126,7 @@ impl<A: Augmenter> Job<A> {
     fn ask(&mut self, at: u32) -> Result<Step, Refusal>
         requires { ⌜ Opens (now self .state) at ⌝ }
         ensures below { λ _. ⌜ now (self .exit) .below ≡ now (self .entry) .below ⌝ }
-        ensures moves { λ r. ⌜ Advanced (dim (now (self .entry) .below)) (reaches (now (self .entry) .below)) (Member (now (self .entry) .below)) (view dim (now (self .entry))) r (view dim (now (self .exit))) ⌝ }
+        ensures moves { λ r. ⌜ Advanced-by dim reaches Member (now (self .entry)) r (now (self .exit)) ⌝ }
     {
         let answer = put(&self.below, &self.prices, &self.point, at)?;
         self.totals.asked = self.totals.asked.saturating_add(1);

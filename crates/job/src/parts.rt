@@ -39,7 +39,7 @@ pub struct Line {
 }
 
 /// A line for each plane that a row within the largest reach can have.
-#[derive(Clone, Copy, PartialEq, Eq, Debug)]
+#[derive(Clone, Copy)]
 pub struct Ledger {
     pub lines: [Line; 40],
 }

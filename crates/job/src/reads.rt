@@ -4,8 +4,8 @@ ghost use lib.ListN.{getD};
 ghost use Rattle.augmenter.specs.Questions.{Cheapest};
 ghost use Rattle.job.specs.declared.parts.State.the-variants.{Open, Finished};
 ghost use Rattle.job.specs.Views.{blank-line, margin-at, left-at};
-ghost use Rattle.job.specs.Soundness.{Sound, IsBegun, Near, left};
-ghost use Rattle.job.specs.Jobs.{view};
+ghost use Rattle.job.specs.Soundness.{IsBegun, Near, left};
+ghost use Rattle.job.specs.Jobs.{view, Sound-job};
 
 use crate::job::Job;
 use crate::parts::Line;
@@ -81,8 +81,8 @@ impl<A: Augmenter> Job<A> {
     /// The job's point, a row of zeros before it has begun.
     pub fn point(&self) -> &[u8]
         ensures is { λ r. ⌜ now r ≡ view dim (now (self .entry)) .point ⌝ }
-        ensures member { λ r. ⌜ (Sound (dim (now (self .entry) .below)) (reaches (now (self .entry) .below)) (Member (now (self .entry) .below)) (view dim (now (self .entry))) → IsBegun (now (self .entry) .state) → Member (now (self .entry) .below) (now r)) ⌝ }
-        ensures cheapest { λ r. ⌜ (Sound (dim (now (self .entry) .below)) (reaches (now (self .entry) .below)) (Member (now (self .entry) .below)) (view dim (now (self .entry))) → now (self .entry) .state ≡ Finished → Cheapest (Member (now (self .entry) .below)) (view dim (now (self .entry)) .prices) (now r)) ⌝ }
+        ensures member { λ r. ⌜ (Sound-job dim reaches Member (now (self .entry)) → IsBegun (now (self .entry) .state) → Member (now (self .entry) .below) (now r)) ⌝ }
+        ensures cheapest { λ r. ⌜ (Sound-job dim reaches Member (now (self .entry)) → now (self .entry) .state ≡ Finished → Cheapest (Member (now (self .entry) .below)) (view dim (now (self .entry)) .prices) (now r)) ⌝ }
     {
         let n = self.below.dimension();
         &self.point[..n]
@@ -99,7 +99,7 @@ impl<A: Augmenter> Job<A> {
     /// By how much a member can be cheaper than the job's point at most, 0 unless a plane is open.
     pub fn margin(&self) -> u128
         ensures is { λ r. ⌜ r ≡ margin-at (view dim (now (self .entry)) .prices) (now (self .entry) .state) ⌝ }
-        ensures near { λ r. ⌜ (Sound (dim (now (self .entry) .below)) (reaches (now (self .entry) .below)) (Member (now (self .entry) .below)) (view dim (now (self .entry))) → IsBegun (now (self .entry) .state) → Near (Member (now (self .entry) .below)) (view dim (now (self .entry))) r) ⌝ }
+        ensures near { λ r. ⌜ (Sound-job dim reaches Member (now (self .entry)) → IsBegun (now (self .entry) .state) → Near (Member (now (self .entry) .below)) (view dim (now (self .entry))) r) ⌝ }
     {
         match self.state {
             State::Open { plane, improved } => open_margin(self.prices(), plane, improved),
