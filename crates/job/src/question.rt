@@ -9,7 +9,7 @@ use rows::prices::row_at_plane;
 use rows::refusals::Refusal;
 
 /// One question, put with the row at a plane; what was found comes at the start of an array.
-pub fn put<A: Augmenter>(below: &A, prices: &Padded<i64>, point: &Padded<u8>, plane: u32) -> Result<Option<Padded<u8>>, Refusal>
+pub(crate) fn put<A: Augmenter>(below: &A, prices: &Padded<i64>, point: &Padded<u8>, plane: u32) -> Result<Option<Padded<u8>>, Refusal>
     ensures { λ r. ⌜ Put (dim (now (below .entry))) (reaches (now (below .entry))) (Member (now (below .entry))) (row-at plane (take (dim (now (below .entry))) (now (prices .entry)))) (take (dim (now (below .entry))) (now (point .entry))) r ⌝ }
 {
     let n = below.dimension();

@@ -1,3 +1,4 @@
+pub mod Classes
 pub mod Refusals
 pub mod Points
 pub mod Prices

@@ -1,5 +1,6 @@
 //! The words of the subject and its leaves: points, price rows, planes, packed points, refusals.
 
+pub mod classes;
 pub mod packed;
 pub mod points;
 pub mod prices;
