@@ -58,17 +58,23 @@ pub trait Augmenter {
 
 /// The checks of a question that are the same for every set: lengths, marks, weight, in this order.
 /// `room` is the length of the output row.
-pub fn shared_checks(n: usize, reach: u64, prices: &[i64], point: &[u8], room: usize) -> Result<(), Refusal>
+pub fn shared_checks(
+    n: usize,
+    reach: u64,
+    prices: &[i64],
+    point: &[u8],
+    room: usize,
+) -> Result<(), Refusal>
     ensures { λ r. ⌜ Screened (shared-checks n reach (now (prices .entry)) (now (point .entry)) room) r ⌝ }
 {
     if prices.len() != n || point.len() != n || room != n {
-        return Err(Refusal { fault: Fault::Length, place: 0 });
+        return Err(Fault::Length.at(0));
     }
     if let Some(place) = bad_mark(point) {
-        return Err(Refusal { fault: Fault::Mark, place });
+        return Err(Fault::Mark.at(place));
     }
     if weight(prices) > u128::from(reach) {
-        return Err(Refusal { fault: Fault::Weight, place: 0 });
+        return Err(Fault::Weight.at(0));
     }
     Ok(())
 }

@@ -19,14 +19,38 @@ pub struct Part {
 
 /// The lines and stores, in coordinate order.
 pub const PARTS: [Part; 8] = [
-    Part { name: "vault line A, door events, 3 units", charge: Charge::Kept(Class::DoorEvents, 3) },
-    Part { name: "vault line B, door events, 2 units", charge: Charge::Kept(Class::DoorEvents, 2) },
-    Part { name: "standby line, heartbeats, 40 units", charge: Charge::Kept(Class::Heartbeats, 40) },
-    Part { name: "keypad store, keypad errors, 12 units", charge: Charge::Kept(Class::KeypadErrors, 12) },
-    Part { name: "shared store, keypad errors, 30 units", charge: Charge::Kept(Class::KeypadErrors, 30) },
-    Part { name: "event store on the ground floor, door events, 1 unit", charge: Charge::Kept(Class::DoorEvents, 1) },
-    Part { name: "event store in the cellar, door events, 4 units", charge: Charge::Kept(Class::DoorEvents, 4) },
-    Part { name: "store handed back, a credit", charge: Charge::Credit(1500) },
+    Part {
+        name: "vault line A, door events, 3 units",
+        charge: Charge::Kept(Class::DoorEvents, 3),
+    },
+    Part {
+        name: "vault line B, door events, 2 units",
+        charge: Charge::Kept(Class::DoorEvents, 2),
+    },
+    Part {
+        name: "standby line, heartbeats, 40 units",
+        charge: Charge::Kept(Class::Heartbeats, 40),
+    },
+    Part {
+        name: "keypad store, keypad errors, 12 units",
+        charge: Charge::Kept(Class::KeypadErrors, 12),
+    },
+    Part {
+        name: "shared store, keypad errors, 30 units",
+        charge: Charge::Kept(Class::KeypadErrors, 30),
+    },
+    Part {
+        name: "event store on the ground floor, door events, 1 unit",
+        charge: Charge::Kept(Class::DoorEvents, 1),
+    },
+    Part {
+        name: "event store in the cellar, door events, 4 units",
+        charge: Charge::Kept(Class::DoorEvents, 4),
+    },
+    Part {
+        name: "store handed back, a credit",
+        charge: Charge::Credit(1500),
+    },
 ];
 
 /// The legal layouts, as rows of marks.

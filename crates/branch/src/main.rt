@@ -28,7 +28,12 @@ const REACH: u64 = 1_000_000;
 
 fn main(rt: LibcRuntime) -> io::Result<()> {
     let prices = price_row();
-    println!(rt, "Branch Harbour Street: {} lines and stores, {} legal layouts\n", PARTS.len(), LAYOUTS.len())?;
+    println!(
+        rt,
+        "Branch Harbour Street: {} lines and stores, {} legal layouts\n",
+        PARTS.len(),
+        LAYOUTS.len()
+    )?;
     show_parts(&rt, &prices)?;
     show_layouts(&rt, &prices)?;
     let listed = match Listed::new(PARTS.len(), REACH, &packed_layouts()) {
@@ -81,7 +86,12 @@ fn show_parts(rt: &LibcRuntime, prices: &[i64; 8]) -> io::Result<()> {
 fn show_layouts(rt: &LibcRuntime, prices: &[i64]) -> io::Result<()> {
     println!(rt, "\nlegal layout    price")?;
     for row in &LAYOUTS {
-        println!(rt, "{:>12} {:>8}", marks(rt.alloc(), row)?, price(prices, row))?;
+        println!(
+            rt,
+            "{:>12} {:>8}",
+            marks(rt.alloc(), row)?,
+            price(prices, row)
+        )?;
     }
     Ok(())
 }
@@ -93,8 +103,18 @@ fn plan(rt: &LibcRuntime, listed: Listed, prices: &[i64]) -> io::Result<()> {
         return show_refusal(rt, refusal);
     }
     let bound = job.questions_left();
-    println!(rt, "\nStart {} at price {}.", marks(rt.alloc(), &START)?, price(prices, &START))?;
-    println!(rt, "Quoted beforehand: at most {bound} questions ({} ones plus {} planes).\n", ones(prices), planes(prices))?;
+    println!(
+        rt,
+        "\nStart {} at price {}.",
+        marks(rt.alloc(), &START)?,
+        price(prices, &START)
+    )?;
+    println!(
+        rt,
+        "Quoted beforehand: at most {bound} questions ({} ones plus {} planes).\n",
+        ones(prices),
+        planes(prices)
+    )?;
     println!(rt, "plane  answer   point      margin")?;
     for _ in 0..bound {
         if job.state() == State::Finished {
@@ -112,7 +132,13 @@ fn show_advance<A: Augmenter>(rt: &LibcRuntime, job: &mut Job<A>) -> io::Result<
         State::NotBegun | State::Finished => 0,
     };
     match job.advance() {
-        Ok(step) => println!(rt, "{plane:>5}  {:<8} {} {:>8}", answer(step), marks(rt.alloc(), job.point())?, job.margin()),
+        Ok(step) => println!(
+            rt,
+            "{plane:>5}  {:<8} {} {:>8}",
+            answer(step),
+            marks(rt.alloc(), job.point())?,
+            job.margin()
+        ),
         Err(refusal) => show_refusal(rt, refusal),
     }
 }
@@ -125,14 +151,36 @@ fn answer(step: Step) -> &'static str {
     }
 }
 
-fn show_result<A: Augmenter>(rt: &LibcRuntime, job: &Job<A>, before: i128, bound: u128) -> io::Result<()> {
+fn show_result<A: Augmenter>(
+    rt: &LibcRuntime,
+    job: &Job<A>,
+    before: i128,
+    bound: u128,
+) -> io::Result<()> {
     let totals = job.totals();
     let after = price(job.prices(), job.point());
-    println!(rt, "\nChosen layout {} at price {after}.", marks(rt.alloc(), job.point())?)?;
-    println!(rt, "Saved against the start: {}.", before.saturating_sub(after))?;
-    println!(rt, "Questions asked: {} of at most {bound}. Improvements: {}.", totals.asked, totals.improved)
+    println!(
+        rt,
+        "\nChosen layout {} at price {after}.",
+        marks(rt.alloc(), job.point())?
+    )?;
+    println!(
+        rt,
+        "Saved against the start: {}.",
+        before.saturating_sub(after)
+    )?;
+    println!(
+        rt,
+        "Questions asked: {} of at most {bound}. Improvements: {}.",
+        totals.asked, totals.improved
+    )
 }
 
 fn show_refusal(rt: &LibcRuntime, refusal: Refusal) -> io::Result<()> {
-    println!(rt, "Refused by {} at place {}.", refusal.fault.number(), refusal.place)
+    println!(
+        rt,
+        "Refused by {} at place {}.",
+        refusal.fault.number(),
+        refusal.place
+    )
 }

@@ -17,7 +17,6 @@ use Rattle.augmenter.specs.declared.answers.Answer.the-variants.{Found, Nothing
 use Rattle.job.specs.Calls.{Put}
 
 module _ (n R : ℕ) (M : List ℕ → Type 0) (ps qs : List ℤ) (x y o o′ : List ℕ) (p : ps ≡ qs) (e : x ≡ y) (l : length o ≡ n) where
-
   -- the same question, of equal rows
   moved : (P : List ℤ → List ℕ → ℕ → Type 0) → P ps x (length o) → P qs y n
   moved P h = subst (λ (m : ℕ). P qs y m) l (subst (λ (z : List ℕ). P qs z (length o)) e (subst (λ (z : List ℤ). P z x (length o)) p h))
@@ -26,9 +25,10 @@ module _ (n R : ℕ) (M : List ℕ → Type 0) (ps qs : List ℤ) (x y o o′ : 
   put-found a q points is h =
       let A : Answer → Type 0 = λ z. Better n R M ps x o o′ (Ok z) in
       let b = subst A is h in
-      let C : List ℕ → Type 0 = λ z. Cheaper M qs y z in
-      (moved (λ ps x m. Passes (checks n R M ps x m)) (b .0),
-      subst C (sym (take-at o′ q n (points o′ (b .1 .0) .0))) (moved (λ ps x m. Cheaper M ps x o′) (b .1)))
+      let C : List ℕ → Type 0 = λ z. Cheaper M qs y z in (
+        moved (λ ps x m. Passes (checks n R M ps x m)) (b .0),
+        subst C (sym (take-at o′ q n (points o′ (b .1 .0) .0))) (moved (λ ps x m. Cheaper M ps x o′) (b .1)),
+      )
 
   pub put-nothing : (a : Answer) → a ≡ Nothing → Better n R M ps x o o′ (Ok a) → Put n R M qs y (Ok None)
   put-nothing a is h =

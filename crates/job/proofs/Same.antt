@@ -11,15 +11,11 @@ use Rattle.job.specs.declared.parts.Line.{Line}
 use Rattle.job.specs.Views.{View}
 
 pub same-view : (m m′ : ℕ) (s s′ : State) (x x′ : List ℕ) (p p′ : List ℤ) (t t′ : Totals) (l l′ : List Line) →
-  m ≡ m′ → s ≡ s′ → x ≡ x′ → p ≡ p′ → t ≡ t′ → l ≡ l′ →
-  _≡_ {A = View}
-  (record { number = m; state = s; point = x; prices = p; totals = t; ledger = l })
-  (record { number = m′; state = s′; point = x′; prices = p′; totals = t′; ledger = l′ })
+    m ≡ m′ → s ≡ s′ → x ≡ x′ → p ≡ p′ → t ≡ t′ → l ≡ l′ →
+    _≡_ {A = View}
+    (record { number = m; state = s; point = x; prices = p; totals = t; ledger = l })
+    (record { number = m′; state = s′; point = x′; prices = p′; totals = t′; ledger = l′ })
 same-view m m′ s s′ x x′ p p′ t t′ l l′ em es ex ep et el = cc
-
-pub same-totals : (a i k r r′ : ℕ) → r ≡ r′ →
-  _≡_ {A = Totals} (record { asked = a; improved = i; closed = k; rows = r }) (record { asked = a; improved = i; closed = k; rows = r′ })
-same-totals a i k r r′ e = cc
 
 -- a row of n entries comes back from the array that it was put into
 pub row-back : {X : Type 0} (n : ℕ) (xs p : List X) (f : X) → n ≤ 128 → length xs ≡ n → p ≡ take 128 (xs ++ replicate 128 f) → take n p ≡ xs

@@ -39,7 +39,7 @@ blank-sound m n R M = record {
 
 -- the totals bound the questions of all rows so far, whatever the state
 totals-few : (R : ℕ) (M : List ℕ → Type 0) (ps : List ℤ) (x : List ℕ) (t : Totals) (s : State) → Standing R M ps x s → Spent ps t s →
-  (t .improved ≤ t .rows * 5120) × (t .closed ≤ t .rows * 40)
+    (t .improved ≤ t .rows * 5120) × (t .closed ≤ t .rows * 40)
 totals-few R M ps x t NotBegun st sp = (omega arith, omega arith)
 totals-few R M ps x t (Open k j) st sp = let e = ones-below-suc k ps in (omega arith, omega arith)
 totals-few R M ps x t Finished st sp = (sp .0, sp .1)
@@ -48,23 +48,31 @@ totals-few R M ps x t Finished st sp = (sp .0, sp .1)
 stands-opened : (R : ℕ) (M : List ℕ → Type 0) (ps : List ℤ) (x : List ℕ) (m : ℕ) → R < 2 ^ 40 → planes ps ≡ m → M x → weight ps ≤ R → Standing R M ps x (opened m)
 stands-opened R M ps x zero low e mx w =
     let u = under-planes ps (omega (arith, top-light ps)) in
-    let u0 : Under (2 ^ 0) ps = subst (λ (z : ℕ). Under (2 ^ z) ps) e u in
-    (mx, w, λ y my.
-      let zx : price ps x ≡ pos 0 = rw at-zero at (zeros-above 0 ps x u0) in
-      let zy : price ps y ≡ pos 0 = rw at-zero at (zeros-above 0 ps y u0) in
-      omega (arith, ints))
+    let u0 : Under (2 ^ 0) ps = subst (λ (z : ℕ). Under (2 ^ z) ps) e u in (
+      mx,
+      w,
+      λ y my.
+          let zx : price ps x ≡ pos 0 = rw at-zero at (zeros-above 0 ps x u0) in
+          let zy : price ps y ≡ pos 0 = rw at-zero at (zeros-above 0 ps y u0) in
+          omega (arith, ints),
+    )
 stands-opened R M ps x (suc k) low e mx w =
     let u = under-planes ps (omega (arith, top-light ps)) in
-    let u1 : Under (2 ^ suc k) ps = subst (λ (z : ℕ). Under (2 ^ z) ps) e u in
-    (mx, w, omega arith, omega arith, λ y my.
-      let one = next-plane k ps x y in
-      let zx = zeros-above (suc k) ps x u1 in
-      let zy = zeros-above (suc k) ps y u1 in
-      omega (arith, ints))
+    let u1 : Under (2 ^ suc k) ps = subst (λ (z : ℕ). Under (2 ^ z) ps) e u in (
+      mx,
+      w,
+      omega arith,
+      omega arith,
+      λ y my.
+          let one = next-plane k ps x y in
+          let zx = zeros-above (suc k) ps x u1 in
+          let zy = zeros-above (suc k) ps y u1 in
+          omega (arith, ints),
+    )
 
 spent-opened : (ps : List ℤ) (t : Totals) (m r : ℕ) → m ≤ 40 → Under (2 ^ m) ps → ones ps ≤ 5120 → r ≡ t .rows + 1 →
-  t .improved ≤ t .rows * 5120 → t .closed ≤ t .rows * 40 →
-  Spent ps (record { asked = t .asked; improved = t .improved; closed = t .closed; rows = r }) (opened m)
+    t .improved ≤ t .rows * 5120 → t .closed ≤ t .rows * 40 →
+    Spent ps (record { asked = t .asked; improved = t .improved; closed = t .closed; rows = r }) (opened m)
 spent-opened ps t zero r f u o e g h = (omega arith, omega arith)
 spent-opened ps t (suc k) r f u o e g h = let q = ones-below-all (suc k) ps u in (omega arith, omega arith)
 
@@ -75,14 +83,19 @@ left-opened ps (suc k) e u = let q = ones-below-all (suc k) ps u in omega arith
 -- a plane closed
 stands-closed : (R : ℕ) (M : List ℕ → Type 0) (ps : List ℤ) (x : List ℕ) (k j : ℕ) → Standing R M ps x (Open k j) → Cheapest M (row-at k ps) x → Standing R M ps x (opened k)
 stands-closed R M ps x zero j s h = (s .0, s .1, λ y my. rw at-zero at (h y my))
-stands-closed R M ps x (suc k) j s h =
-    (s .0, s .1, omega arith, omega arith, λ y my.
+stands-closed R M ps x (suc k) j s h = (
+  s .0,
+  s .1,
+  omega arith,
+  omega arith,
+  λ y my.
       let one = next-plane k ps x y in
       let g = h y my in
-      omega (arith, ints))
+      omega (arith, ints),
+)
 
 spent-closed : (ps : List ℤ) (t : Totals) (k j a c : ℕ) → j ≤ bits k ps → c ≡ t .closed + 1 → Spent ps t (Open k j) →
-  Spent ps (record { asked = a; improved = t .improved; closed = c; rows = t .rows }) (opened k)
+    Spent ps (record { asked = a; improved = t .improved; closed = c; rows = t .rows }) (opened k)
 spent-closed ps t zero j a c b e s = let q = ones-below-suc 0 ps in (omega arith, omega arith)
 spent-closed ps t (suc k) j a c b e s = let q = ones-below-suc (suc k) ps in (omega arith, omega arith)
 
@@ -92,19 +105,27 @@ closed-falls ps (suc k) j b = let e = ones-below-suc (suc k) ps in omega arith
 
 -- a point improved
 stands-improved : (n R : ℕ) (M : List ℕ → Type 0) (ps : List ℤ) (x o : List ℕ) (k j : ℕ) → n ≤ 128 → length ps ≡ n → Standing R M ps x (Open k j) →
-  Cheaper M (row-at k ps) x o → (more j ≡ j + 1) × (j < bits k ps) × Standing R M ps o (Open k (more j))
+    Cheaper M (row-at k ps) x o → (more j ≡ j + 1) × (j < bits k ps) × Standing R M ps o (Open k (more j))
 stands-improved n R M ps x o k j small len s h =
     let here = s .4 o (h .0) in
     let cheaper = h .1 in
     let lt : j < bits k ps = omega (arith, ints) in
     let b = bits-few k ps in
-    let e : more j ≡ j + 1 = omega arith in
-    (e, lt, (h .0, s .1, s .2, omega arith, λ y my.
-      let g = s .4 y my in
-      omega (arith, ints)))
+    let e : more j ≡ j + 1 = omega arith in (
+      e,
+      lt,
+      (
+        h .0,
+        s .1,
+        s .2,
+        omega arith,
+        λ y my.
+            let g = s .4 y my in
+            omega (arith, ints),
+      ),
+    )
 
 module _ (n R : ℕ) (M : List ℕ → Type 0) (small : n ≤ 128) (low : R < 2 ^ 40) (points : (y : List ℕ) → M y → Point n y) where
-
   -- a sound job's question is never refused
   marks-good : (x : List ℕ) (i : ℕ) → Marks x → Bad-mark x i → ⊥
   marks-good x i m b = let h = m i (b .0) in let g = b .1 in omega arith
@@ -119,21 +140,23 @@ module _ (n R : ℕ) (M : List ℕ → Type 0) (small : n ≤ 128) (low : R < 2 
 
   -- a row accepted
   pub accepted-sound : (a : View) (x : List ℕ) (ps : List ℤ) → Sound n R M a → a .totals .rows < 1000 → M x → length ps ≡ n → weight ps ≤ R →
-    Sound n R M (accepted a x ps) × (left (accepted a x ps) ≡ ones ps + planes ps)
+      Sound n R M (accepted a x ps) × (left (accepted a x ps) ≡ ones ps + planes ps)
   accepted-sound a x ps w few m l light =
       let t = top-light ps in
       let u = under-planes ps (omega arith) in
       let f = totals-few R M (a .prices) (a .point) (a .totals) (a .state) (w .stands) (w .spent) in
       let o = few-ones ps (under-largest ps 0 (2 ^ 40) (omega arith)) in
-      let more-rows : more (a .totals .rows) ≡ a .totals .rows + 1 = omega arith in
-      (record {
-        point-long = points x m .0;
-        prices-long = l;
-        stands = stands-opened R M ps x (planes ps) low refl m light;
-        few-rows = omega arith;
-        asked = w .asked;
-        spent = spent-opened ps (a .totals) (planes ps) (more (a .totals .rows)) (few-planes ps (omega arith)) u (omega arith) more-rows (f .0) (f .1);
-      }, left-opened ps (planes ps) refl u)
+      let more-rows : more (a .totals .rows) ≡ a .totals .rows + 1 = omega arith in (
+        record {
+          point-long = points x m .0;
+          prices-long = l;
+          stands = stands-opened R M ps x (planes ps) low refl m light;
+          few-rows = omega arith;
+          asked = w .asked;
+          spent = spent-opened ps (a .totals) (planes ps) (more (a .totals .rows)) (few-planes ps (omega arith)) u (omega arith) more-rows (f .0) (f .1);
+        },
+        left-opened ps (planes ps) refl u,
+      )
 
   not-yet : (ps : List ℤ) (t : Totals) (s : State) → s ≡ NotBegun → Spent ps t s → t .rows ≡ 0
   not-yet ps t NotBegun e p = p .2
@@ -151,8 +174,8 @@ module _ (n R : ℕ) (M : List ℕ → Type 0) (small : n ≤ 128) (low : R < 2 
 
   -- advance, by the state before it
   advance-from : (a b : View) (s : State) (r : Result Step Refusal) → a .state ≡ s → Advanced-from n R M a s r b → Sound n R M a →
-    Standing R M (a .prices) (a .point) s → Spent (a .prices) (a .totals) s →
-    Sound n R M b × ((e : Refusal) → r ≡ Err e → s ≡ NotBegun) × (IsOpen s → left b < left-at (a .prices) s)
+      Standing R M (a .prices) (a .point) s → Spent (a .prices) (a .totals) s →
+      Sound n R M b × ((e : Refusal) → r ≡ Err e → s ≡ NotBegun) × (IsOpen s → left b < left-at (a .prices) s)
   advance-from a b NotBegun (Ok t) es g w st sp = absurd g
   advance-from a b NotBegun (Err e) es g w st sp = (subst (Sound n R M) (sym (g .1)) w, (λ f h. refl), λ h. absurd h)
   advance-from a b Finished (Ok Improved) es g w st sp = absurd g
@@ -165,30 +188,36 @@ module _ (n R : ℕ) (M : List ℕ → Type 0) (small : n ≤ 128) (low : R < 2 
       let o = ones-below-suc k (a .prices) in
       let rows = w .few-rows in
       let all = w .asked in
-      let q : left b ≡ left-at (a .prices) (Open k (more j)) = ap left (g .2) in
-      (subst (Sound n R M) (sym (g .2)) (record {
-        point-long = points (b .point) (f .2 .0) .0;
-        prices-long = w .prices-long;
-        stands = f .2;
-        few-rows = rows;
-        asked = omega arith;
-        spent = (omega arith, omega arith);
-      }), (λ e h. let z : _≡_ {A = ℕ} 0 1 = cc in absurd (omega arith)), λ h. omega arith)
+      let q : left b ≡ left-at (a .prices) (Open k (more j)) = ap left (g .2) in (
+        subst (Sound n R M) (sym (g .2)) (record {
+          point-long = points (b .point) (f .2 .0) .0;
+          prices-long = w .prices-long;
+          stands = f .2;
+          few-rows = rows;
+          asked = omega arith;
+          spent = (omega arith, omega arith);
+        }),
+        (λ e h. let z : _≡_ {A = ℕ} 0 1 = cc in absurd (omega arith)),
+        λ h. omega arith,
+      )
   advance-from a b (Open k j) (Ok Closed) es g w st sp =
       let t = totals-few R M (a .prices) (a .point) (a .totals) (Open k j) st sp in
       let rows = w .few-rows in
       let all = w .asked in
       let q : left b ≡ left-at (a .prices) (opened k) = ap left (g .2) in
       let c = closed-falls (a .prices) k j (st .3) in
-      let one : more (a .totals .closed) ≡ a .totals .closed + 1 = omega arith in
-      (subst (Sound n R M) (sym (g .2)) (record {
-        point-long = w .point-long;
-        prices-long = w .prices-long;
-        stands = stands-closed R M (a .prices) (a .point) k j st (g .1);
-        few-rows = rows;
-        asked = omega arith;
-        spent = spent-closed (a .prices) (a .totals) k j (more (a .totals .asked)) (more (a .totals .closed)) (st .3) one sp;
-      }), (λ e h. let z : _≡_ {A = ℕ} 0 1 = cc in absurd (omega arith)), λ h. omega arith)
+      let one : more (a .totals .closed) ≡ a .totals .closed + 1 = omega arith in (
+        subst (Sound n R M) (sym (g .2)) (record {
+          point-long = w .point-long;
+          prices-long = w .prices-long;
+          stands = stands-closed R M (a .prices) (a .point) k j st (g .1);
+          few-rows = rows;
+          asked = omega arith;
+          spent = spent-closed (a .prices) (a .totals) k j (more (a .totals .asked)) (more (a .totals .closed)) (st .3) one sp;
+        }),
+        (λ e h. let z : _≡_ {A = ℕ} 0 1 = cc in absurd (omega arith)),
+        λ h. omega arith,
+      )
   advance-from a b (Open k j) (Ok Done) es g w st sp = absurd g
   advance-from a b (Open k j) (Err e) es g w st sp = absurd (never-refused (a .prices) (a .point) k e (w .prices-long) (st .0) (st .1) (g .0))
 

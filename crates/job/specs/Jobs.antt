@@ -15,8 +15,13 @@ use Rattle.job.specs.Views.{View}
 -- what a job shows: rows stand at the start of arrays of the largest dimension, and only their first n entries count
 abbrev pub view : {X : Type 0} → (X → ℕ) → Job X → View
 view d j = record {
-  number = j .number; state = j .state; point = take (d (j .below)) (j .point); prices = take (d (j .below)) (j .prices);
-  totals = j .totals; ledger = j .ledger .lines }
+  number = j .number;
+  state = j .state;
+  point = take (d (j .below)) (j .point);
+  prices = take (d (j .below)) (j .prices);
+  totals = j .totals;
+  ledger = j .ledger .lines;
+}
 
 abbrev pub Sound-job : {X : Type 0} → (X → ℕ) → (X → ℕ) → (X → List ℕ → Type 0) → Job X → Type 0
 Sound-job d r M j = Sound (d (j .below)) (r (j .below)) (M (j .below)) (view d j)

@@ -34,8 +34,13 @@ blank-ledger = replicate 40 blank-line
 -- a job just made
 abbrev pub blank : ℕ → ℕ → View
 blank m n = record {
-  number = m; state = NotBegun; point = replicate n 0; prices = replicate n (pos 0);
-  totals = record { asked = 0; improved = 0; closed = 0; rows = 0 }; ledger = blank-ledger }
+  number = m;
+  state = NotBegun;
+  point = replicate n 0;
+  prices = replicate n (pos 0);
+  totals = record { asked = 0; improved = 0; closed = 0; rows = 0 };
+  ledger = blank-ledger;
+}
 
 -- the state with this many planes to go: the top one of them is open, or the job is finished
 abbrev pub opened : ℕ → State
@@ -51,26 +56,60 @@ counted false l = record { asked = more (l .asked); improved = l .improved }
 abbrev pub noted : Bool → ℕ → List Line → List Line
 noted b k ls = set ls k (counted b (getD ls k blank-line))
 
+-- the job a with the point x
+abbrev pub placed : View → List ℕ → View
+placed a x = record {
+  number = a .number;
+  state = a .state;
+  point = x;
+  prices = a .prices;
+  totals = a .totals;
+  ledger = a .ledger;
+}
+
+-- the job a with the prices ps
+abbrev pub priced : View → List ℤ → View
+priced a ps = record {
+  number = a .number;
+  state = a .state;
+  point = a .point;
+  prices = ps;
+  totals = a .totals;
+  ledger = a .ledger;
+}
+
 -- the job a with the point x and the prices ps as its present row
 abbrev pub accepted : View → List ℕ → List ℤ → View
 accepted a x ps = record {
-  number = a .number; state = opened (planes ps); point = x; prices = ps;
+  number = a .number;
+  state = opened (planes ps);
+  point = x;
+  prices = ps;
   totals = record { asked = a .totals .asked; improved = a .totals .improved; closed = a .totals .closed; rows = more (a .totals .rows) };
-  ledger = blank-ledger }
+  ledger = blank-ledger;
+}
 
 -- the job a after a question at plane k that found x, the one after j earlier improvements at that plane
 abbrev pub improved : View → ℕ → ℕ → List ℕ → View
 improved a k j x = record {
-  number = a .number; state = Open k (more j); point = x; prices = a .prices;
+  number = a .number;
+  state = Open k (more j);
+  point = x;
+  prices = a .prices;
   totals = record { asked = more (a .totals .asked); improved = more (a .totals .improved); closed = a .totals .closed; rows = a .totals .rows };
-  ledger = noted true k (a .ledger) }
+  ledger = noted true k (a .ledger);
+}
 
 -- the job a after a question at plane k that found nothing: the plane is closed
 abbrev pub closed : View → ℕ → View
 closed a k = record {
-  number = a .number; state = opened k; point = a .point; prices = a .prices;
+  number = a .number;
+  state = opened k;
+  point = a .point;
+  prices = a .prices;
   totals = record { asked = more (a .totals .asked); improved = a .totals .improved; closed = more (a .totals .closed); rows = a .totals .rows };
-  ledger = noted false k (a .ledger) }
+  ledger = noted false k (a .ledger);
+}
 
 -- the margin: with plane k open and j improvements since, what the planes up to k can still bring; else 0
 abbrev pub margin-at : List ℤ → State → ℕ

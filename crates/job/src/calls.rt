@@ -1,12 +1,11 @@
 ghost use mathlib.Core.Path.{_≡_};
-ghost use Prim.Native.Nat.{ℕ, _<_, _≤_};
+ghost use Prim.Native.Nat.{ℕ, _^_, _<_, _≤_};
 ghost use lib.ListN.{length, take, replicate};
-ghost use Rattle.rows.specs.Prices.{planes};
-ghost use Rattle.job.specs.declared.parts.State.the-variants.{Open};
-ghost use Rattle.job.specs.Views.{blank, blank-ledger, opened, counted, accepted};
+ghost use Rattle.rows.specs.Prices.{weight};
+ghost use Rattle.job.specs.declared.parts.State.the-variants.{NotBegun, Open};
+ghost use Rattle.job.specs.Views.{blank, blank-ledger, opened, counted, placed, priced, accepted};
 ghost use Rattle.job.specs.Calls.{Opens};
 ghost use Rattle.job.specs.Jobs.{view, Sound-job, Began-by, Begin-keeps-by, Advanced-by, Advance-keeps-by};
-
 use crate::job::Job;
 use crate::parts::Ledger;
 use crate::parts::Line;
@@ -33,7 +32,12 @@ fn zeros<T: Copy>(zero: T) -> Padded<T>
 fn blank_ledger() -> Ledger
     ensures { λ r. ⌜ r .lines ≡ blank-ledger ⌝ }
 {
-    Ledger { lines: [Line { asked: 0, improved: 0 }; 40] }
+    Ledger {
+        lines: [Line {
+            asked: 0,
+            improved: 0,
+        }; 40],
+    }
 }
 
 /// The state with this many planes to go.
@@ -45,7 +49,10 @@ fn opening(count: u32) -> State
     if count == 0 {
         State::Finished
     } else {
-        State::Open { plane: count - 1, improved: 0 }
+        State::Open {
+            plane: count - 1,
+            improved: 0,
+        }
     }
 }
 
@@ -72,19 +79,42 @@ impl<A: Augmenter> Job<A> {
             state: State::NotBegun,
             point: zeros(0),
             prices: zeros(0),
-            totals: Totals { asked: 0, improved: 0, closed: 0, rows: 0 },
+            totals: Totals {
+                asked: 0,
+                improved: 0,
+                closed: 0,
+                rows: 0,
+            },
             ledger: blank_ledger(),
         }
+    }
+
+    /// Makes a row of marks the job's point.
+    fn place(&mut self, point: &[u8])
+        requires { ⌜ length (now point) ≡ dim (now self .below) ⌝ }
+        ensures below { λ _. ⌜ now (self .exit) .below ≡ now (self .entry) .below ⌝ }
+        ensures after { λ _. ⌜ view dim (now (self .exit)) ≡ placed (view dim (now (self .entry))) (now (point .entry)) ⌝ }
+    {
+        self.point = padded(point, 0);
+    }
+
+    /// Keeps a price row.
+    fn keep(&mut self, prices: &[i64])
+        requires { ⌜ length (now prices) ≡ dim (now self .below) ⌝ }
+        ensures below { λ _. ⌜ now (self .exit) .below ≡ now (self .entry) .below ⌝ }
+        ensures after { λ _. ⌜ view dim (now (self .exit)) ≡ priced (view dim (now (self .entry))) (now (prices .entry)) ⌝ }
+    {
+        self.prices = padded(prices, 0);
     }
 
     /// Makes the prices the present row: the top plane opens, or the job is finished where the row has none.
     fn accept(&mut self, prices: &[i64])
         requires long { ⌜ length (now prices) ≡ dim (now self .below) ⌝ }
-        requires low { ⌜ planes (now prices) ≤ 40 ⌝ }
+        requires light { ⌜ weight (now prices) < 2 ^ 40 ⌝ }
         ensures below { λ _. ⌜ now (self .exit) .below ≡ now (self .entry) .below ⌝ }
-        ensures after { λ _. ⌜ view dim (now (self .exit)) ≡ accepted (view dim (now (self .entry))) (take (dim (now (self .entry) .below)) (now (self .entry) .point)) (now (prices .entry)) ⌝ }
+        ensures after { λ _. ⌜ view dim (now (self .exit)) ≡ accepted (view dim (now (self .entry))) (view dim (now (self .entry)) .point) (now (prices .entry)) ⌝ }
     {
-        self.prices = padded(prices, 0);
+        self.keep(prices);
         self.totals.rows = self.totals.rows.saturating_add(1);
         self.state = opening(planes(prices));
         self.ledger = blank_ledger();
@@ -97,14 +127,23 @@ impl<A: Augmenter> Job<A> {
         ensures keeps { λ r. ⌜ Begin-keeps-by dim reaches Member (now (self .entry)) (now (prices .entry)) r (now (self .exit)) ⌝ }
     {
         let State::NotBegun = self.state else {
-            return Err(Refusal { fault: Fault::Begun, place: 0 });
+            return Err(Fault::Begun.at(0));
         };
+        self.start(start, prices)
+    }
+
+    /// Begins, where the job has not begun.
+    fn start(&mut self, start: &[u8], prices: &[i64]) -> Result<(), Refusal>
+        requires { ⌜ now self .state ≡ NotBegun ⌝ }
+        ensures below { λ _. ⌜ now (self .exit) .below ≡ now (self .entry) .below ⌝ }
+        ensures moves { λ r. ⌜ Began-by dim reaches Member (now (self .entry)) (now (start .entry)) (now (prices .entry)) r (now (self .exit)) ⌝ }
+    {
         let n = self.below.dimension();
         shared_checks(n, self.below.reach(), prices, start, n)?;
         if !self.below.belongs(start) {
-            return Err(Refusal { fault: Fault::NotMember, place: 0 });
+            return Err(Fault::NotMember.at(0));
         }
-        self.point = padded(start, 0);
+        self.place(start);
         self.accept(prices);
         Ok(())
     }
@@ -116,7 +155,7 @@ impl<A: Augmenter> Job<A> {
         ensures keeps { λ r. ⌜ Advance-keeps-by dim reaches Member (now (self .entry)) r (now (self .exit)) ⌝ }
     {
         match self.state {
-            State::NotBegun => Err(Refusal { fault: Fault::NotBegun, place: 0 }),
+            State::NotBegun => Err(Fault::NotBegun.at(0)),
             State::Open { plane, .. } => self.ask(plane),
             State::Finished => Ok(Step::Done),
         }
@@ -133,7 +172,10 @@ impl<A: Augmenter> Job<A> {
         match (self.state, answer) {
             (State::Open { plane, improved }, Some(next)) => {
                 self.point = next;
-                self.state = State::Open { plane, improved: improved.saturating_add(1) };
+                self.state = State::Open {
+                    plane,
+                    improved: improved.saturating_add(1),
+                };
                 self.totals.improved = self.totals.improved.saturating_add(1);
                 count(&mut self.ledger.lines[at as usize], true);
                 Ok(Step::Improved)

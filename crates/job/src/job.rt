@@ -1,7 +1,6 @@
 ghost use mathlib.Core.Path.{_≡_};
 ghost use Prim.Native.Nat.{ℕ, _<_};
 ghost use Rattle.job.specs.declared.parts.State.the-variants.{Open};
-
 use crate::parts::Ledger;
 use crate::parts::State;
 use crate::parts::Totals;

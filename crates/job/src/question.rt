@@ -1,7 +1,6 @@
 ghost use lib.ListN.{take};
 ghost use Rattle.rows.specs.Prices.{row-at};
 ghost use Rattle.job.specs.Calls.{Put};
-
 use augmenter::Augmenter;
 use augmenter::answers::Answer;
 use rows::points::Padded;
@@ -9,7 +8,12 @@ use rows::prices::row_at_plane;
 use rows::refusals::Refusal;
 
 /// One question, put with the row at a plane; what was found comes at the start of an array.
-pub(crate) fn put<A: Augmenter>(below: &A, prices: &Padded<i64>, point: &Padded<u8>, plane: u32) -> Result<Option<Padded<u8>>, Refusal>
+pub(crate) fn put<A: Augmenter>(
+    below: &A,
+    prices: &Padded<i64>,
+    point: &Padded<u8>,
+    plane: u32,
+) -> Result<Option<Padded<u8>>, Refusal>
     ensures { λ r. ⌜ Put (dim (now (below .entry))) (reaches (now (below .entry))) (Member (now (below .entry))) (row-at plane (take (dim (now (below .entry))) (now (prices .entry)))) (take (dim (now (below .entry))) (now (point .entry))) r ⌝ }
 {
     let n = below.dimension();

@@ -6,7 +6,6 @@ ghost use Rattle.job.specs.declared.parts.State.the-variants.{Open, Finished};
 ghost use Rattle.job.specs.Views.{blank-line, margin-at, left-at};
 ghost use Rattle.job.specs.Soundness.{IsBegun, Near, left};
 ghost use Rattle.job.specs.Jobs.{view, Sound-job};
-
 use crate::job::Job;
 use crate::parts::Line;
 use crate::parts::State;
@@ -22,7 +21,10 @@ fn line_at(lines: &[Line], plane: usize) -> Line
     if plane < lines.len() {
         lines[plane]
     } else {
-        Line { asked: 0, improved: 0 }
+        Line {
+            asked: 0,
+            improved: 0,
+        }
     }
 }
 

@@ -21,7 +21,7 @@ pub rows-back : (rows p : List (List ℕ)) (f : List ℕ) → length rows ≤ 25
 rows-back rows p f h e = ap (λ (l : List (List ℕ)). take (length rows) l) e ∙ take-padded 256 rows f h
 
 pub rows-clear : (n : ℕ) (rows p : List (List ℕ)) → take (length rows) p ≡ rows → Clear-rows n rows →
-  (k i : ℕ) → (k < length rows) × (n ≤ i) → bit-at (getD p k []) i ≡ 0
+    (k i : ℕ) → (k < length rows) × (n ≤ i) → bit-at (getD p k []) i ≡ 0
 rows-clear n rows p e c k i h =
     let P : List ℕ → Type 0 = λ r. bit-at r i ≡ 0 in
     let q : getD rows k [] ≡ getD p k [] = ap (λ (l : List (List ℕ)). getD l k []) (sym e) ∙ getD-take (length rows) p k [] (h .0) in
@@ -29,7 +29,7 @@ rows-clear n rows p e c k i h =
 
 -- the rows in use, the first c of them, are clear
 pub part-clear : (n m c d : ℕ) (p : List (List ℕ)) → m ≡ n → d ≡ c →
-  ((k i : ℕ) → (k < c) × (n ≤ i) → bit-at (getD p k []) i ≡ 0) → Clear-rows m (take d p)
+    ((k i : ℕ) → (k < c) × (n ≤ i) → bit-at (getD p k []) i ≡ 0) → Clear-rows m (take d p)
 part-clear n m c d p em ed g k h i l =
     let L = length-take d p in
     let P : List ℕ → Type 0 = λ r. bit-at r i ≡ 0 in
@@ -37,8 +37,8 @@ part-clear n m c d p em ed g k h i l =
 
 -- row k unpacked over a row of m bytes is a member, cheaper than x where the row costs less than the limit
 pub row-cheaper : (n m : ℕ) (rows : List (List ℕ)) (ps : List ℤ) (x y : List ℕ) (k : ℕ) (L : ℤ) → m ≡ n → L ≡ price ps x → k < length rows →
-  y ≡ unpacked m (getD rows k []) → Clear-rows n rows → (Clear-from m (getD rows k []) → packed y ≡ getD rows k []) →
-  price ps (unpacked n (getD rows k [])) <ℤ L → Cheaper (Listed-in n rows) ps x y
+    y ≡ unpacked m (getD rows k []) → Clear-rows n rows → (Clear-from m (getD rows k []) → packed y ≡ getD rows k []) →
+    price ps (unpacked n (getD rows k [])) <ℤ L → Cheaper (Listed-in n rows) ps x y
 row-cheaper n m rows ps x y k L em el h e c p l =
     let f : y ≡ unpacked n (getD rows k []) = e ∙ ap (λ (z : ℕ). unpacked z (getD rows k [])) em in
     let P : List ℕ → Type 0 = λ z. Point n z in
@@ -52,7 +52,7 @@ member-row n rows y h m = ap (λ (bs : List ℕ). unpacked n bs) (m .1 .2) ∙ u
 
 -- no row costs less than the limit, so no member is cheaper
 pub none-cheaper : (n : ℕ) (rows : List (List ℕ)) (ps : List ℤ) (x : List ℕ) (L : ℤ) → n ≤ 128 → L ≡ price ps x →
-  ((k : ℕ) → k < length rows → L ≤ℤ price ps (unpacked n (getD rows k []))) → Cheapest (Listed-in n rows) ps x
+    ((k : ℕ) → k < length rows → L ≤ℤ price ps (unpacked n (getD rows k []))) → Cheapest (Listed-in n rows) ps x
 none-cheaper n rows ps x L h el g y m =
     let P : List ℕ → Type 0 = λ z. price ps x ≤ℤ price ps z in
     let R : ℤ → Type 0 = λ z. z ≤ℤ price ps (unpacked n (getD rows (m .1 .0) [])) in
@@ -60,7 +60,7 @@ none-cheaper n rows ps x L h el g y m =
 
 -- an answer over the rows in use
 pub answered-in : (n m c d : ℕ) (p : List (List ℕ)) (ps : List ℤ) (x o o′ : List ℕ) (a : Answer) → m ≡ n → d ≡ c →
-  Answered (Listed-in m (take d p)) ps x o o′ a → Answered (Listed-in n (take c p)) ps x o o′ a
+    Answered (Listed-in m (take d p)) ps x o o′ a → Answered (Listed-in n (take c p)) ps x o o′ a
 answered-in n m c d p ps x o o′ a em ed h =
     let P : ℕ → ℕ → Type 0 = λ i j. Answered (Listed-in i (take j p)) ps x o o′ a in
     subst (λ (j : ℕ). P n j) ed (subst (λ (i : ℕ). P i d) em h)

@@ -13,7 +13,6 @@ ghost use Rattle.rows.specs.Prices.{price};
 ghost use Rattle.rows.specs.Refusals.{Passes, Refused-by};
 ghost use Rattle.augmenter.specs.Questions.{Answered};
 ghost use Rattle.listed.specs.Lists.{Listed-in, Clear-rows, Stray-row, making-checks};
-
 use augmenter::Augmenter;
 use augmenter::answers::Answer;
 use augmenter::shared_checks;
@@ -61,18 +60,23 @@ impl Listed {
         ensures { λ r. ⌜ ByOk r (λ l. Passes (making-checks n reach (now (rows .entry))) × (l .n ≡ n) × (l .limit ≡ reach) × (take (l .count) (l .rows) ≡ now (rows .entry))) (λ e. Refused-by (making-checks n reach (now (rows .entry))) e) ⌝ }
     {
         if n > 128 {
-            return Err(Refusal { fault: Fault::Dimension, place: 0 });
+            return Err(Fault::Dimension.at(0));
         }
         if rows.len() > 256 {
-            return Err(Refusal { fault: Fault::TooMany, place: 0 });
+            return Err(Fault::TooMany.at(0));
         }
         if reach > LARGEST_REACH {
-            return Err(Refusal { fault: Fault::Reach, place: 0 });
+            return Err(Fault::Reach.at(0));
         }
         if let Some(place) = stray_row(rows, n) {
-            return Err(Refusal { fault: Fault::OutOfRange, place });
+            return Err(Fault::OutOfRange.at(place));
         }
-        Ok(Listed { n, limit: reach, count: rows.len(), rows: padded(rows, [0; 16]) })
+        Ok(Listed {
+            n,
+            limit: reach,
+            count: rows.len(),
+            rows: padded(rows, [0; 16]),
+        })
     }
 }
 
@@ -161,7 +165,7 @@ pub impl Augmenter for Listed as ListedAugmenter {
     fn better(&self, prices: &[i64], point: &[u8], out: &mut [u8]) -> Result<Answer, Refusal> {
         shared_checks(self.n, self.limit, prices, point, out.len())?;
         if !self.belongs(point) {
-            return Err(Refusal { fault: Fault::NotMember, place: 0 });
+            return Err(Fault::NotMember.at(0));
         }
         Ok(write_cheaper(&self.rows[0..self.count], prices, point, out))
     }

@@ -27,7 +27,7 @@ bit-small bs i = omega arith
 
 -- a loop that writes f k at each place k: one place more
 pub filled-more : (f : ℕ → ℕ) (xs : List ℕ) (i v : ℕ) → i < length xs → v ≡ f i →
-  ((k : ℕ) → k < i → getD xs k 0 ≡ f k) → (k : ℕ) → k < i + 1 → getD (set xs i v) k 0 ≡ f k
+    ((k : ℕ) → k < i → getD xs k 0 ≡ f k) → (k : ℕ) → k < i + 1 → getD (set xs i v) k 0 ≡ f k
 filled-more f xs i v h e g k l =
     let P : ℕ → Type 0 = λ y. getD (set xs i y) k 0 ≡ f k in
     subst P (sym e) (fill-by-more f xs i 0 h g k l)
@@ -76,7 +76,7 @@ same-digits (suc m) a b h k e =
     let da = div-one a in
     let db = div-one b in
     let high = same-digits m (a / 2) (b / 2) (omega arith) (omega arith) (λ j g.
-      sym (ap (λ (z : ℕ). z % 2) (halved a j)) ∙ e (suc j) (omega arith) ∙ ap (λ (z : ℕ). z % 2) (halved b j)) in
+    sym (ap (λ (z : ℕ). z % 2) (halved a j)) ∙ e (suc j) (omega arith) ∙ ap (λ (z : ℕ). z % 2) (halved b j)) in
     omega arith
 
 -- the bits of a packed row
@@ -125,16 +125,18 @@ packed-is xs bs l h = fill-by-all (byte-of xs) bs 16 0 l h
 pub unpacked-packed : (n : ℕ) (xs : List ℕ) → n ≤ 128 → Point n xs → unpacked n (packed xs) ≡ xs
 unpacked-packed n xs h p =
     sym (fill-by-all (bit-at (packed xs)) xs n 0 (p .0) (λ k g.
-      sym (bit-packed xs k (omega arith) ∙ digit-of (getD xs k 0) (p .1 k (omega (arith, p .0))))))
+    sym (bit-packed xs k (omega arith) ∙ digit-of (getD xs k 0) (p .1 k (omega (arith, p .0))))))
 
 -- the marks of an unpacked point
 pub unpacked-point : (n : ℕ) (bs : List ℕ) → Point n (unpacked n bs)
-unpacked-point n bs =
-    (length-map-counting (bit-at bs) 0 n, λ i h.
+unpacked-point n bs = (
+  length-map-counting (bit-at bs) 0 n,
+  λ i h.
       let l = length-map-counting (bit-at bs) 0 n in
       let e = getD-map-counting (bit-at bs) 0 n i i 0 (omega arith) (omega arith) in
       let s = bit-small bs i in
-      omega arith)
+      omega arith,
+)
 
 unpacked-digit : (n : ℕ) (bs : List ℕ) (i : ℕ) → Clear-from n bs → digit (getD (unpacked n bs) i 0) ≡ bit-at bs i
 unpacked-digit n bs i c =
@@ -146,11 +148,12 @@ unpacked-digit n bs i c =
 pub packed-unpacked : (n : ℕ) (bs : List ℕ) → length bs ≡ 16 → ((b : ℕ) → b < 16 → getD bs b 0 < 2 ^ 8) → Clear-from n bs → packed (unpacked n bs) ≡ bs
 packed-unpacked n bs l f c =
     sym (packed-is xs bs l (λ b h.
-      same-digits 8 (getD bs b 0) (byte-of xs b) (f b h) (byte-small xs b) (λ j g.
-        sym (byte-digit xs b j g ∙ unpacked-digit n bs (8 * b + j) c ∙ here b j g))))
+    same-digits 8 (getD bs b 0) (byte-of xs b) (f b h) (byte-small xs b) (λ j g.
+    sym (byte-digit xs b j g ∙ unpacked-digit n bs (8 * b + j) c ∙ here b j g))))
   where
     xs : List ℕ
     xs = unpacked n bs
+
     here : (b j : ℕ) → j < 8 → bit-at bs (8 * b + j) ≡ getD bs b 0 / 2 ^ j % 2
     here b j g =
         let q : (8 * b + j) / 8 ≡ b = omega arith in

@@ -32,8 +32,8 @@ rest-of n k =
 
 -- what one coordinate does
 down-one : (k : ℕ) (p : ℤ) (x y : ℕ) →
-  ((pays (at-plane (suc k) p) y +ℤ pays (at-plane (suc k) p) y) +ℤ pays (at-plane k p) x) ≤ℤ
-  (((pays (at-plane (suc k) p) x +ℤ pays (at-plane (suc k) p) x) +ℤ pays (at-plane k p) y) +ℤ pos (bit-of k p))
+    ((pays (at-plane (suc k) p) y +ℤ pays (at-plane (suc k) p) y) +ℤ pays (at-plane k p) x) ≤ℤ
+    (((pays (at-plane (suc k) p) x +ℤ pays (at-plane (suc k) p) x) +ℤ pays (at-plane k p) y) +ℤ pos (bit-of k p))
 down-one k (pos n) zero zero = omega (arith, ints, halves n k)
 down-one k (pos n) zero (suc y) = omega (arith, ints, halves n k)
 down-one k (pos n) (suc x) zero = omega (arith, ints, halves n k)
@@ -44,8 +44,8 @@ down-one k (negsuc n) (suc x) zero = omega (arith, ints, halves (suc n) k)
 down-one k (negsuc n) (suc x) (suc y) = omega (arith, ints, halves (suc n) k)
 
 join-rows : (a x c y A X C Y : ℤ) (b B D : ℕ) → D ≡ b + B →
-  ((a +ℤ a) +ℤ x) ≤ℤ (((c +ℤ c) +ℤ y) +ℤ pos b) → ((A +ℤ A) +ℤ X) ≤ℤ (((C +ℤ C) +ℤ Y) +ℤ pos B) →
-  (((a +ℤ A) +ℤ (a +ℤ A)) +ℤ (x +ℤ X)) ≤ℤ ((((c +ℤ C) +ℤ (c +ℤ C)) +ℤ (y +ℤ Y)) +ℤ pos D)
+    ((a +ℤ a) +ℤ x) ≤ℤ (((c +ℤ c) +ℤ y) +ℤ pos b) → ((A +ℤ A) +ℤ X) ≤ℤ (((C +ℤ C) +ℤ Y) +ℤ pos B) →
+    (((a +ℤ A) +ℤ (a +ℤ A)) +ℤ (x +ℤ X)) ≤ℤ ((((c +ℤ C) +ℤ (c +ℤ C)) +ℤ (y +ℤ Y)) +ℤ pos D)
 join-rows a x c y A X C Y b B D e h g = omega (arith, ints)
 
 -- a point with no marks costs nothing
@@ -55,8 +55,8 @@ price-none k (p ∷ ps) = refl
 
 -- from one plane to the next: twice the advantage at plane k + 1 is the advantage at plane k, up to the bits of plane k
 pub next-plane : (k : ℕ) (ps : List ℤ) (xs ys : List ℕ) →
-  ((price (row-at (suc k) ps) ys +ℤ price (row-at (suc k) ps) ys) +ℤ price (row-at k ps) xs) ≤ℤ
-  (((price (row-at (suc k) ps) xs +ℤ price (row-at (suc k) ps) xs) +ℤ price (row-at k ps) ys) +ℤ pos (bits k ps))
+    ((price (row-at (suc k) ps) ys +ℤ price (row-at (suc k) ps) ys) +ℤ price (row-at k ps) xs) ≤ℤ
+    (((price (row-at (suc k) ps) xs +ℤ price (row-at (suc k) ps) xs) +ℤ price (row-at k ps) ys) +ℤ pos (bits k ps))
 next-plane k [] xs ys = omega (arith, ints)
 next-plane k (p ∷ ps) [] [] = omega (arith, ints)
 next-plane k (p ∷ ps) [] (y ∷ ys) =
@@ -138,8 +138,8 @@ twice j k =
 
 -- an advantage at plane k is one at the full prices, up to the remainders
 pub full-prices : (k : ℕ) (ps : List ℤ) (xs ys : List ℕ) (j b : ℕ) →
-  (price (row-at k ps) xs +ℤ pos j) ≤ℤ (price (row-at k ps) ys +ℤ pos b) →
-  (price ps xs +ℤ pos (j * 2 ^ k)) ≤ℤ (price ps ys +ℤ pos (b * 2 ^ k + remainders k ps))
+    (price (row-at k ps) xs +ℤ pos j) ≤ℤ (price (row-at k ps) ys +ℤ pos b) →
+    (price ps xs +ℤ pos (j * 2 ^ k)) ≤ℤ (price ps ys +ℤ pos (b * 2 ^ k + remainders k ps))
 full-prices zero ps xs ys j b h =
     let h' : (price ps xs +ℤ pos j) ≤ℤ (price ps ys +ℤ pos b) = rw at-zero at h in
     omega (arith, ints)
@@ -148,7 +148,7 @@ full-prices (suc k) ps xs ys j b h =
     let g : (price (row-at k ps) xs +ℤ pos (2 * j)) ≤ℤ (price (row-at k ps) ys +ℤ pos (2 * b + bits k ps)) = omega (arith, ints) in
     let r = full-prices k ps xs ys (2 * j) (2 * b + bits k ps) g in
     let w : b * 2 ^ suc k + remainders (suc k) ps ≡ (2 * b + bits k ps) * 2 ^ k + remainders k ps =
-        omega (arith, twice b k, add-mul (2 * b) (bits k ps) (2 ^ k), remainders-suc k ps) in
+    omega (arith, twice b k, add-mul (2 * b) (bits k ps) (2 ^ k), remainders-suc k ps) in
     simp (twice j k, w) r
 
 -- the planes of a row reach its largest magnitude
@@ -224,7 +224,7 @@ remainder-past n k h g = mod-eq-of-lt (let z = pow-mono g in omega arith)
 
 -- one more coordinate of a price
 pub price-drop-more : (ps : List ℤ) (xs : List ℕ) (i : ℕ) → i < length ps → i < length xs →
-  price (drop i ps) (drop i xs) ≡ pays (getD ps i (pos 0)) (getD xs i 0) +ℤ price (drop (i + 1) ps) (drop (i + 1) xs)
+    price (drop i ps) (drop i xs) ≡ pays (getD ps i (pos 0)) (getD xs i 0) +ℤ price (drop (i + 1) ps) (drop (i + 1) xs)
 price-drop-more ps xs i h k = rw (drop-more ps i (pos 0) h, drop-more xs i 0 k)
 
 pub price-drop-all : (ps : List ℤ) (xs : List ℕ) (i : ℕ) → i ≡ min (length ps) (length xs) → price (drop i ps) (drop i xs) ≡ pos 0

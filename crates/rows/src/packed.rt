@@ -12,7 +12,11 @@ pub type Packed = [u8; 16];
 fn bit_at(bytes: &Packed, i: usize) -> u8
     ensures { λ r. ⌜ r ≡ bit-at (now (bytes .entry)) i ⌝ }
 {
-    if i / 8 < 16 { (bytes[i / 8] >> (i % 8)) % 2 } else { 0 }
+    if i / 8 < 16 {
+        (bytes[i / 8] >> (i % 8)) % 2
+    } else {
+        0
+    }
 }
 
 /// A mark as a binary digit.

@@ -4,7 +4,6 @@ ghost use Prim.Native.Nat.{ℕ, _+_, _-_, _*_, _/_, _%_, _^_, _<_, _≤_};
 ghost use lib.ListN.{length, getD, set};
 ghost use lib.IntN.{natAbs};
 ghost use Rattle.rows.specs.Prices.{weight, price, pays, at-plane, row-at, remainders, ones, ones-below, planes, largest, Digits};
-
 use crate::points::Padded;
 
 /// The weight of a price row: the sum of its magnitudes.
@@ -22,17 +21,18 @@ pub fn weight(prices: &[i64]) -> u128
 pub fn ones(prices: &[i64]) -> u128
     ensures { λ r. ⌜ r ≡ ones (now (prices .entry)) ⌝ }
 {
-    let mut sum: u128 = 0;
+    let mut count: u128 = 0;
     for p in prices {
-        sum += u128::from(p.unsigned_abs().count_ones());
+        count += u128::from(p.unsigned_abs().count_ones());
     }
-    sum
+    count
 }
 
 /// The planes of a price row: the binary digits of its largest magnitude, none for a row of zeros.
 pub fn planes(prices: &[i64]) -> u32
     ensures value { λ r. ⌜ r ≡ planes (now (prices .entry)) ⌝ }
     ensures digits { λ r. ⌜ Digits (largest (now (prices .entry))) r ⌝ }
+    ensures few { λ r. ⌜ (weight (now (prices .entry)) < 2 ^ 40 → r ≤ 40) ⌝ }
 {
     let mut most: u64 = 0;
     for p in prices {
@@ -52,7 +52,11 @@ fn quotient(magnitude: u64, plane: u32) -> u64
 fn remainder(magnitude: u64, plane: u32) -> u64
     ensures { λ r. ⌜ r ≡ magnitude % 2 ^ plane ⌝ }
 {
-    if plane < 64 { magnitude % (1 << plane) } else { magnitude }
+    if plane < 64 {
+        magnitude % (1 << plane)
+    } else {
+        magnitude
+    }
 }
 
 /// A price at a plane: the sign is kept, and the magnitude loses its digits below the plane.
@@ -61,7 +65,11 @@ pub fn price_at_plane(price: i64, plane: u32) -> i64
     ensures { λ r. ⌜ r ≡ at-plane plane price ⌝ }
 {
     let m = quotient(price.unsigned_abs(), plane);
-    if price < 0 { (-i128::from(m)) as i64 } else { m as i64 }
+    if price < 0 {
+        (-i128::from(m)) as i64
+    } else {
+        m as i64
+    }
 }
 
 /// The row at a plane.
@@ -79,11 +87,11 @@ pub fn row_at_plane(prices: &Padded<i64>, plane: u32) -> Padded<i64>
 pub fn remainders(prices: &[i64], plane: u32) -> u128
     ensures { λ r. ⌜ r ≡ remainders plane (now (prices .entry)) ⌝ }
 {
-    let mut sum: u128 = 0;
+    let mut rest: u128 = 0;
     for p in prices {
-        sum += u128::from(remainder(p.unsigned_abs(), plane));
+        rest += u128::from(remainder(p.unsigned_abs(), plane));
     }
-    sum
+    rest
 }
 
 /// The ones below a plane: the one bits of the magnitudes' remainders by 2^plane.
@@ -91,11 +99,11 @@ pub fn ones_below(prices: &[i64], plane: u32) -> u128
     ensures is { λ r. ⌜ r ≡ ones-below plane (now (prices .entry)) ⌝ }
     ensures few { λ r. ⌜ r ≤ length (now (prices .entry)) * 64 ⌝ }
 {
-    let mut sum: u128 = 0;
+    let mut low: u128 = 0;
     for p in prices {
-        sum += u128::from(remainder(p.unsigned_abs(), plane).count_ones());
+        low += u128::from(remainder(p.unsigned_abs(), plane).count_ones());
     }
-    sum
+    low
 }
 
 /// What one coordinate adds to the price of a point.

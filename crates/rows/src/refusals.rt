@@ -44,6 +44,13 @@ impl Fault {
             Fault::NotBegun => 12,
         }
     }
+
+    /// The refusal by this fault, at a place.
+    pub fn at(self, place: usize) -> Refusal
+        ensures { λ r. ⌜ r ≡ record { fault = self; place = place } ⌝ }
+    {
+        Refusal { fault: self, place }
+    }
 }
 
 /// A refused call: why, and where; the place is 0 unless the table of refusals names one.

@@ -14,6 +14,7 @@ write-cheaper-requires c κs =
 
 pub returns : need.returns
 returns c =
-    let same = c .in-Continue-shared-checks .ensures tt in
-    ((same .0, (same .1 .0, (same .1 .1 .0, (search needs, tt)))),
-    answered-in _ _ _ _ (c .args .self .now .rows) _ _ _ _ _ (same .0 .0) (omega arith) (c .write-cheaper .ensures))
+    let same = c .in-Continue-shared-checks .ensures tt in (
+      (same .0, (same .1 .0, (same .1 .1 .0, (search needs, tt)))),
+      answered-in _ _ _ _ (c .args .self .now .rows) _ _ _ _ _ (same .0 .0) (omega arith) (c .write-cheaper .ensures),
+    )

@@ -15,7 +15,7 @@ loop-i-again c =
 pub returns : need.returns
 returns c =
     let e : c .loop-i .row ≡ unpacked (length (c .args .row .now)) (c .args .bytes .now) =
-        fill-by-all (bit-at (c .args .bytes .now)) (c .loop-i .row) (length (c .args .row .now)) 0 (omega arith) (λ k h. c .loop-i .inv k (omega arith)) in
+    fill-by-all (bit-at (c .args .bytes .now)) (c .loop-i .row) (length (c .args .row .now)) 0 (omega arith) (λ k h. c .loop-i .inv k (omega arith)) in
     record {
       is = e;
       inverse = λ h. ap packed e ∙ packed-unpacked (length (c .args .row .now)) (c .args .bytes .now) (search needs) (λ b g. search needs) h;

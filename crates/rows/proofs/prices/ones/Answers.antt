@@ -6,8 +6,8 @@ use Rattle.std.proofs.shelf.Sums.{sumBy-more}
 use Rattle.std.proofs.shelf.Signed.{toZ-ofZ}
 use Rattle.rows.proofs.prices.ones.Needs as need
 
-pub add-sum : need.add-sum
-add-sum c = search (needs, ones-le 64 (c .unsigned-abs .result))
+pub add-count : need.add-count
+add-count c = search (needs, ones-le 64 (c .unsigned-abs .result))
 
 pub loop-p-again : need.loop-p-again
 loop-p-again c = (grind (arith, toZ-ofZ, sumBy-more), search (needs, ones-le 64 (c .unsigned-abs .result)))

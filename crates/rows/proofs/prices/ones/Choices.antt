@@ -5,4 +5,4 @@ use Rattle.rows.specs.Prices.{ones}
 use Rattle.rows.proofs.prices.ones.Given as given
 
 abbrev pub Inv-loop-p : given.InvT-loop-p
-Inv-loop-p l = (l .sum ≡ ones (take (l .p-index) (l .prices))) × (l .sum ≤ l .p-index * 64)
+Inv-loop-p l = (l .count ≡ ones (take (l .p-index) (l .prices))) × (l .count ≤ l .p-index * 64)

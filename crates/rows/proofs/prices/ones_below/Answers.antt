@@ -12,8 +12,8 @@ use Rattle.std.proofs.shelf.Sums.{sumBy-more}
 use Rattle.std.proofs.shelf.Signed.{toZ-ofZ}
 use Rattle.rows.proofs.prices.ones_below.Needs as need
 
-pub add-sum : need.add-sum
-add-sum c = search (needs, ones-le 64 (c .remainder .result))
+pub add-low : need.add-low
+add-low c = search (needs, ones-le 64 (c .remainder .result))
 
 pub loop-p-again : need.loop-p-again
 loop-p-again c =

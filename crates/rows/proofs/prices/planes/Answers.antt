@@ -6,7 +6,7 @@ use lib.Count.{leadingZeros}
 use Rattle.std.proofs.shelf.Sums.{folded-more}
 use Rattle.std.proofs.shelf.Signed.{toZ-ofZ}
 use Rattle.rows.specs.Prices.{largest, Digits}
-use Rattle.rows.proofs.Planes.{digits-of}
+use Rattle.rows.proofs.Planes.{digits-of, few-planes}
 use Rattle.rows.proofs.prices.planes.Needs as need
 
 pub loop-p-again : need.loop-p-again
@@ -19,4 +19,5 @@ returns c =
     record {
       value = ap (λ (n : ℕ). 64 - leadingZeros 64 n) e;
       digits = subst D e (digits-of (c .loop-p .most) (omega arith));
+      few = λ h. omega (arith, few-planes (c .args .prices .now) h, ap (λ (n : ℕ). 64 - leadingZeros 64 n) e);
     }
