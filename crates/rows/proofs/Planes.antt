@@ -16,6 +16,7 @@ use Rattle.std.proofs.shelf.Lists.{drop-more, drop-all}
 use Rattle.std.proofs.shelf.Signed.{ints}
 use Rattle.std.proofs.shelf.Sums.{sumBy-cons}
 use Rattle.std.specs.shelf.Lists.{sumBy, folded}
+use Rattle.rows.specs.Planes.{Plane-laws}
 use Rattle.rows.specs.Prices.{weight, ones, largest, signed, at-plane, row-at, pays, price, bit-of, bits, remainders, ones-below, planes, Digits, Under}
 
 -- a magnitude's quotient: one plane down
@@ -240,3 +241,12 @@ price-drop-all ps xs i e =
 
 pub remainder-le : (n k : ℕ) → n % 2 ^ k ≤ n
 remainder-le n k = let s = split n k in omega arith
+
+pub plane-laws : (k : ℕ) (ps : List ℤ) → Plane-laws k ps
+plane-laws k ps = record {
+  next = next-plane k ps;
+  full = full-prices k ps;
+  rest = remainders-suc k ps;
+  low-ones = ones-below-suc k ps;
+  lighter = weight-at k ps;
+}

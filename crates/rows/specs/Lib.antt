@@ -3,3 +3,4 @@ pub mod Refusals
 pub mod Points
 pub mod Prices
 pub mod Packed
+pub mod Planes

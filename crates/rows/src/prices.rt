@@ -3,6 +3,7 @@ ghost use mathlib.Core.List.{map};
 ghost use Prim.Native.Nat.{ℕ, _+_, _-_, _*_, _/_, _%_, _^_, _<_, _≤_};
 ghost use lib.ListN.{length, getD, set};
 ghost use lib.IntN.{natAbs};
+ghost use Rattle.rows.specs.Planes.{Plane-laws};
 ghost use Rattle.rows.specs.Prices.{weight, price, pays, at-plane, row-at, remainders, ones, ones-below, planes, largest, Digits};
 use crate::points::Padded;
 
@@ -74,7 +75,8 @@ pub fn price_at_plane(price: i64, plane: u32) -> i64
 
 /// The row at a plane.
 pub fn row_at_plane(prices: &Padded<i64>, plane: u32) -> Padded<i64>
-    ensures { λ r. ⌜ r ≡ row-at plane (now (prices .entry)) ⌝ }
+    ensures is { λ r. ⌜ r ≡ row-at plane (now (prices .entry)) ⌝ }
+    ensures laws { λ _. ⌜ Plane-laws plane (now (prices .entry)) ⌝ }
 {
     let mut row = [0i64; 128];
     for i in 0..128 {

@@ -8,6 +8,7 @@ use mir.Val.{SFits}
 use Rattle.std.proofs.shelf.Lists.{take-more-set, map-more}
 use Rattle.std.proofs.shelf.Signed.{toZ-ofZ}
 use Rattle.rows.specs.Prices.{at-plane}
+use Rattle.rows.proofs.Planes.{plane-laws}
 use Rattle.rows.proofs.prices.row_at_plane.Needs as need
 
 pub loop-i-again : need.loop-i-again
@@ -20,4 +21,4 @@ loop-i-again c =
     (search needs, simp toZ-ofZ (cc))
 
 pub returns : need.returns
-returns c = grind (arith, take-all)
+returns c = record { is = grind (arith, take-all); laws = plane-laws (c .args .plane) (c .args .prices .now) }
