@@ -22,9 +22,12 @@ use Rattle.job.specs.declared.parts.State.the-variants.{NotBegun, Open, Finish
 use Rattle.job.specs.declared.parts.Step.{Step}
 use Rattle.job.specs.declared.parts.Step.the-variants.{Improved, Closed, Done}
 use Rattle.job.specs.declared.parts.Totals.{Totals}
-use Rattle.job.specs.Views.{View, more, blank, opened, accepted, improved, closed, margin-at, left-at}
+use Rattle.job.specs.Views.{View, IsBegun, IsOpen, more, blank, opened, accepted, improved, closed, margin-at, left-at}
 use Rattle.job.specs.Calls.{begin-checks, question-checks, Began, Advanced, Advanced-from}
-use Rattle.job.specs.Soundness.{IsBegun, IsOpen, Standing, Spent, Sound, left, Begin-keeps, Advance-keeps, Near}
+use Rattle.job.specs.Soundness.{Standing, Spent, Sound, left, Begin-keeps, Advance-keeps, Near}
+
+clash : {P : Type 0} {s : State} {k j : ℕ} → s ≡ Open k j → s ≡ Finished → P
+clash e f = let z : _≡_ {A = ℕ} 0 1 = cc in absurd (omega arith)
 
 -- a job just made
 pub blank-sound : (m n R : ℕ) (M : List ℕ → Type 0) → Sound n R M (blank m n)
@@ -35,6 +38,7 @@ blank-sound m n R M = record {
   few-rows = omega arith;
   asked = refl;
   spent = (refl, refl, refl);
+  ticket = λ h. absurd (h refl);
 }
 
 -- the totals bound the questions of all rows so far, whatever the state
@@ -154,6 +158,7 @@ module _ (n R : ℕ) (M : List ℕ → Type 0) (small : n ≤ 128) (low : R < 2 
           few-rows = omega arith;
           asked = w .asked;
           spent = spent-opened ps (a .totals) (planes ps) (more (a .totals .rows)) (few-planes ps (omega arith)) u (omega arith) more-rows (f .0) (f .1);
+        ticket = λ h. absurd (h refl);
         },
         left-opened ps (planes ps) refl u,
       )
@@ -196,6 +201,7 @@ module _ (n R : ℕ) (M : List ℕ → Type 0) (small : n ≤ 128) (low : R < 2 
           few-rows = rows;
           asked = omega arith;
           spent = (omega arith, omega arith);
+          ticket = λ h. clash es (w .ticket h);
         }),
         (λ e h. let z : _≡_ {A = ℕ} 0 1 = cc in absurd (omega arith)),
         λ h. omega arith,
@@ -214,6 +220,7 @@ module _ (n R : ℕ) (M : List ℕ → Type 0) (small : n ≤ 128) (low : R < 2 
           few-rows = rows;
           asked = omega arith;
           spent = spent-closed (a .prices) (a .totals) k j (more (a .totals .asked)) (more (a .totals .closed)) (st .3) one sp;
+          ticket = λ h. clash es (w .ticket h);
         }),
         (λ e h. let z : _≡_ {A = ℕ} 0 1 = cc in absurd (omega arith)),
         λ h. omega arith,

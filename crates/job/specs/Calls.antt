@@ -1,24 +1,24 @@
 -- What each call of a job promises, for every job and every argument: which refusal, or which view after it.
 -- n is the augmenter's dimension, R its reach, M says which rows are members; a is the view before the call and b after it.
 use mathlib.Core.Path.{_≡_}
-use mathlib.Core.List.{List, _∷_}
-use Prim.Native.Nat.{ℕ}
+use mathlib.Core.List.{List, [], _∷_}
+use Prim.Native.Nat.{ℕ, _≤_, _<_}
 use lib.IntN.{ℤ}
-use lib.ListN.{take}
+use lib.ListN.{length, take}
 use Rattle.std.specs.declared.option.Option.{Option}
 use Rattle.std.specs.declared.option.Option.the-variants.{Some, None}
 use Rattle.std.specs.declared.result.Result.{Result}
 use Rattle.std.specs.declared.result.Result.the-variants.{Ok, Err}
-use Rattle.rows.specs.Prices.{row-at}
+use Rattle.rows.specs.Prices.{row-at, weight}
 use Rattle.rows.specs.Refusals.{Check, ask, Passes, Refused-by}
-use Rattle.rows.specs.declared.refusals.Fault.the-variants.{Begun, NotBegun as Not-begun}
+use Rattle.rows.specs.declared.refusals.Fault.the-variants.{Length, Weight, Begun, NotBegun as Not-begun, RowLimit}
 use Rattle.rows.specs.declared.refusals.Refusal.{Refusal}
 use Rattle.augmenter.specs.Questions.{checks, Cheapest, Cheaper}
 use Rattle.job.specs.declared.parts.State.{State}
 use Rattle.job.specs.declared.parts.State.the-variants.{NotBegun, Open, Finished}
 use Rattle.job.specs.declared.parts.Step.{Step}
 use Rattle.job.specs.declared.parts.Step.the-variants.{Improved, Closed, Done}
-use Rattle.job.specs.Views.{View, accepted, improved, closed}
+use Rattle.job.specs.Views.{View, IsBegun, accepted, improved, closed}
 
 -- begin with the start s and the prices ps: its checks, and the view after it
 abbrev pub begin-checks : ℕ → ℕ → (List ℕ → Type 0) → View → List ℕ → List ℤ → List Check
@@ -61,3 +61,12 @@ Advanced-from n R M a Finished (Err e) b = ⊥
 
 abbrev pub Advanced : ℕ → ℕ → (List ℕ → Type 0) → View → Result Step Refusal → View → Type 0
 Advanced n R M a r b = Advanced-from n R M a (a .state) r b
+
+-- reprice with the prices ps: the point is kept, and the row opens as begin's does
+abbrev pub reprice-checks : ℕ → ℕ → View → List ℤ → List Check
+reprice-checks n R a ps =
+    ask Not-begun (IsBegun (a .state)) ∷ ask RowLimit (a .totals .rows < 1000) ∷ ask Length (length ps ≡ n) ∷ ask Weight (weight ps ≤ R) ∷ []
+
+abbrev pub Repriced : ℕ → ℕ → View → List ℤ → Result (Unit {0}) Refusal → View → Type 0
+Repriced n R a ps (Ok _) b = Passes (reprice-checks n R a ps) × (b ≡ accepted a (a .point) ps)
+Repriced n R a ps (Err e) b = Refused-by (reprice-checks n R a ps) e × (b ≡ a)

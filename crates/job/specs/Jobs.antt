@@ -8,7 +8,7 @@ use Rattle.std.specs.declared.result.Result.{Result}
 use Rattle.rows.specs.declared.refusals.Refusal.{Refusal}
 use Rattle.job.specs.declared.job.Job.{Job}
 use Rattle.job.specs.declared.parts.Step.{Step}
-use Rattle.job.specs.Calls.{Began, Advanced}
+use Rattle.job.specs.Calls.{Began, Advanced, Repriced}
 use Rattle.job.specs.Soundness.{Sound, Begin-keeps, Advance-keeps}
 use Rattle.job.specs.Views.{View}
 
@@ -21,6 +21,7 @@ view d j = record {
   prices = take (d (j .below)) (j .prices);
   totals = j .totals;
   ledger = j .ledger .lines;
+  ticketing = j .ticketing;
 }
 
 abbrev pub Sound-job : {X : Type 0} → (X → ℕ) → (X → ℕ) → (X → List ℕ → Type 0) → Job X → Type 0
@@ -39,3 +40,7 @@ Advanced-by d r M a e b = Advanced (d (a .below)) (r (a .below)) (M (a .below)) 
 
 abbrev pub Advance-keeps-by : {X : Type 0} → (X → ℕ) → (X → ℕ) → (X → List ℕ → Type 0) → Job X → Result Step Refusal → Job X → Type 0
 Advance-keeps-by d r M a e b = Sound-job d r M a → Advance-keeps (d (a .below)) (r (a .below)) (M (a .below)) (view d a) e (view d b)
+
+-- the job a before reprice, its result e, and the job b after it
+abbrev pub Repriced-by : {X : Type 0} → (X → ℕ) → (X → ℕ) → Job X → List ℤ → Result (Unit {0}) Refusal → Job X → Type 0
+Repriced-by d r a ps e b = Repriced (d (a .below)) (r (a .below)) (view d a) ps e (view d b)

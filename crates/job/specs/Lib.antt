@@ -1,4 +1,5 @@
 pub mod Views
 pub mod Calls
+pub mod Tickets
 pub mod Soundness
 pub mod Jobs

@@ -15,17 +15,8 @@ use Rattle.job.specs.declared.parts.State.{State}
 use Rattle.job.specs.declared.parts.State.the-variants.{NotBegun, Open, Finished}
 use Rattle.job.specs.declared.parts.Step.{Step}
 use Rattle.job.specs.declared.parts.Totals.{Totals}
-use Rattle.job.specs.Views.{View, margin-at, left-at}
-
-abbrev pub IsBegun : State → Type 0
-IsBegun NotBegun = ⊥
-IsBegun (Open k j) = Unit {0}
-IsBegun Finished = Unit {0}
-
-abbrev pub IsOpen : State → Type 0
-IsOpen NotBegun = ⊥
-IsOpen (Open k j) = Unit {0}
-IsOpen Finished = ⊥
+use Rattle.job.specs.declared.parts.Ticketing.the-variants.{Unissued}
+use Rattle.job.specs.Views.{View, IsBegun, IsOpen, left-at}
 
 -- how the point stands among the members. At the open plane k no member is cheaper by more than the magnitudes that have
 -- bit k, less the improvements made there; in a finished job no member is cheaper at the full prices
@@ -49,6 +40,7 @@ pub record Sound (n R : ℕ) (M : List ℕ → Type 0) (v : View) : Type 0 where
   pub few-rows : v .totals .rows ≤ 1000
   pub asked : v .totals .asked ≡ v .totals .improved + v .totals .closed
   pub spent : Spent (v .prices) (v .totals) (v .state)
+  pub ticket : (v .ticketing ≡ Unissued → ⊥) → v .state ≡ Finished
 
 -- the most questions still to come
 abbrev pub left : View → ℕ

@@ -10,6 +10,8 @@ use Rattle.job.specs.declared.parts.State.{State}
 use Rattle.job.specs.declared.parts.State.the-variants.{NotBegun, Open, Finished}
 use Rattle.job.specs.declared.parts.Totals.{Totals}
 use Rattle.job.specs.declared.parts.Line.{Line}
+use Rattle.job.specs.declared.parts.Ticketing.{Ticketing}
+use Rattle.job.specs.declared.parts.Ticketing.the-variants.{Unissued, Out, Written}
 
 -- what a job shows; point and prices have the dimension of its augmenter
 pub record View : Type 0 where
@@ -19,6 +21,18 @@ pub record View : Type 0 where
   pub prices : List ℤ
   pub totals : Totals
   pub ledger : List Line
+  pub ticketing : Ticketing
+
+-- the job has begun; a plane is open
+abbrev pub IsBegun : State → Type 0
+IsBegun NotBegun = ⊥
+IsBegun (Open k j) = Unit {0}
+IsBegun Finished = Unit {0}
+
+abbrev pub IsOpen : State → Type 0
+IsOpen NotBegun = ⊥
+IsOpen (Open k j) = Unit {0}
+IsOpen Finished = ⊥
 
 -- one more, up to the largest number of 32 bits
 abbrev pub more : ℕ → ℕ
@@ -40,6 +54,7 @@ blank m n = record {
   prices = replicate n (pos 0);
   totals = record { asked = 0; improved = 0; closed = 0; rows = 0 };
   ledger = blank-ledger;
+  ticketing = Unissued;
 }
 
 -- the state with this many planes to go: the top one of them is open, or the job is finished
@@ -65,6 +80,7 @@ placed a x = record {
   prices = a .prices;
   totals = a .totals;
   ledger = a .ledger;
+  ticketing = a .ticketing;
 }
 
 -- the job a with the prices ps
@@ -76,6 +92,7 @@ priced a ps = record {
   prices = ps;
   totals = a .totals;
   ledger = a .ledger;
+  ticketing = a .ticketing;
 }
 
 -- the job a with the point x and the prices ps as its present row
@@ -87,6 +104,7 @@ accepted a x ps = record {
   prices = ps;
   totals = record { asked = a .totals .asked; improved = a .totals .improved; closed = a .totals .closed; rows = more (a .totals .rows) };
   ledger = blank-ledger;
+  ticketing = Unissued;
 }
 
 -- the job a after a question at plane k that found x, the one after j earlier improvements at that plane
@@ -98,6 +116,7 @@ improved a k j x = record {
   prices = a .prices;
   totals = record { asked = more (a .totals .asked); improved = more (a .totals .improved); closed = a .totals .closed; rows = a .totals .rows };
   ledger = noted true k (a .ledger);
+  ticketing = a .ticketing;
 }
 
 -- the job a after a question at plane k that found nothing: the plane is closed
@@ -109,7 +128,13 @@ closed a k = record {
   prices = a .prices;
   totals = record { asked = more (a .totals .asked); improved = a .totals .improved; closed = more (a .totals .closed); rows = a .totals .rows };
   ledger = noted false k (a .ledger);
+  ticketing = a .ticketing;
 }
+
+-- the job a with another state of its ticket
+abbrev pub ticketed : View → Ticketing → View
+ticketed a t = record {
+  number = a .number; state = a .state; point = a .point; prices = a .prices; totals = a .totals; ledger = a .ledger; ticketing = t }
 
 -- the margin: with plane k open and j improvements since, what the planes up to k can still bring; else 0
 abbrev pub margin-at : List ℤ → State → ℕ

@@ -5,12 +5,13 @@ ghost use Rattle.rows.specs.Prices.{weight};
 ghost use Rattle.job.specs.declared.parts.State.the-variants.{NotBegun, Open};
 ghost use Rattle.job.specs.Views.{blank, blank-ledger, opened, counted, placed, priced, accepted};
 ghost use Rattle.job.specs.Calls.{Opens};
-ghost use Rattle.job.specs.Jobs.{view, Sound-job, Began-by, Begin-keeps-by, Advanced-by, Advance-keeps-by};
+ghost use Rattle.job.specs.Jobs.{view, Sound-job, Began-by, Begin-keeps-by, Advanced-by, Advance-keeps-by, Repriced-by};
 use crate::job::Job;
 use crate::parts::Ledger;
 use crate::parts::Line;
 use crate::parts::State;
 use crate::parts::Step;
+use crate::parts::Ticketing;
 use crate::parts::Totals;
 use crate::question::put;
 use augmenter::Augmenter;
@@ -18,6 +19,7 @@ use augmenter::shared_checks;
 use rows::points::Padded;
 use rows::points::padded;
 use rows::prices::planes;
+use rows::prices::weight;
 use rows::refusals::Fault;
 use rows::refusals::Refusal;
 
@@ -86,6 +88,7 @@ impl<A: Augmenter> Job<A> {
                 rows: 0,
             },
             ledger: blank_ledger(),
+            ticketing: Ticketing::Unissued,
         }
     }
 
@@ -118,6 +121,7 @@ impl<A: Augmenter> Job<A> {
         self.totals.rows = self.totals.rows.saturating_add(1);
         self.state = opening(planes(prices));
         self.ledger = blank_ledger();
+        self.ticketing = Ticketing::Unissued;
     }
 
     /// Begins with a start, which must be a member, and a price row.
@@ -159,6 +163,27 @@ impl<A: Augmenter> Job<A> {
             State::Open { plane, .. } => self.ask(plane),
             State::Finished => Ok(Step::Done),
         }
+    }
+
+    /// Takes a new price row, with the point kept; a ticket still out is out no longer.
+    pub fn reprice(&mut self, prices: &[i64]) -> Result<(), Refusal>
+        ensures below { λ _. ⌜ now (self .exit) .below ≡ now (self .entry) .below ⌝ }
+        ensures moves { λ r. ⌜ Repriced-by dim reaches (now (self .entry)) (now (prices .entry)) r (now (self .exit)) ⌝ }
+    {
+        if let State::NotBegun = self.state {
+            return Err(Fault::NotBegun.at(0));
+        }
+        if self.totals.rows >= 1000 {
+            return Err(Fault::RowLimit.at(0));
+        }
+        if prices.len() != self.below.dimension() {
+            return Err(Fault::Length.at(0));
+        }
+        if weight(prices) > u128::from(self.below.reach()) {
+            return Err(Fault::Weight.at(0));
+        }
+        self.accept(prices);
+        Ok(())
     }
 
     /// Puts the question of the open plane, counts it, and takes over what it found or closes the plane.

@@ -3,6 +3,7 @@ ghost use Prim.Native.Nat.{ℕ, _<_};
 ghost use Rattle.job.specs.declared.parts.State.the-variants.{Open};
 use crate::parts::Ledger;
 use crate::parts::State;
+use crate::parts::Ticketing;
 use crate::parts::Totals;
 use augmenter::Augmenter;
 use rows::points::Padded;
@@ -17,5 +18,6 @@ pub struct Job<A: Augmenter> {
     pub(crate) prices: Padded<i64>,
     pub(crate) totals: Totals,
     pub(crate) ledger: Ledger,
+    pub(crate) ticketing: Ticketing,
     ghost plane_low: { (k j : ℕ) → state ≡ Open k j → k < 40 },
 }

@@ -5,3 +5,4 @@ pub mod job;
 pub mod parts;
 mod question;
 pub mod reads;
+pub mod tickets;

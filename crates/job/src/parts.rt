@@ -43,3 +43,21 @@ pub struct Line {
 pub struct Ledger {
     pub lines: [Line; 40],
 }
+
+/// What became of the ticket for the present row.
+#[derive(Clone, Copy, PartialEq, Eq, Debug)]
+pub enum Ticketing {
+    /// no ticket is out, and the row's plan is not written
+    Unissued,
+    /// a ticket is out
+    Out,
+    /// the row's plan is written
+    Written,
+}
+
+/// A right to one writing of a plan, for a job and the row that it had as its last: a pair of job number and row count.
+/// It is neither `Copy` nor `Drop`, so it is written or withdrawn, and once only.
+pub struct Ticket {
+    pub(crate) number: u32,
+    pub(crate) row: u32,
+}

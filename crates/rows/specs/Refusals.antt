@@ -6,7 +6,7 @@ use Prim.Native.Nat.{ℕ}
 use lib.Dec.{eqb}
 use Rattle.std.specs.Orderings.{When}
 use Rattle.rows.specs.declared.refusals.Fault.{Fault}
-use Rattle.rows.specs.declared.refusals.Fault.the-variants.{Length, Mark, Weight, NotMember, Dimension, TooMany, Reach, OutOfRange, Begun, NotBegun}
+use Rattle.rows.specs.declared.refusals.Fault.the-variants.{Length, Mark, Weight, NotMember, Dimension, TooMany, Reach, OutOfRange, Begun, NotBegun, RowLimit, NotFinished, Ticketed, WrongTicket, ShortBuffer}
 use Rattle.rows.specs.declared.refusals.Refusal.{Refusal}
 
 -- the number of each fault in the table of refusals
@@ -21,6 +21,11 @@ number Reach = 7
 number OutOfRange = 8
 number Begun = 11
 number NotBegun = 12
+number RowLimit = 13
+number NotFinished = 14
+number Ticketed = 15
+number WrongTicket = 16
+number ShortBuffer = 17
 
 -- a check of a call: what it asks, the fault where that is not so, and what it says of a place that the fault is there
 pub record Check : Type 1 where

@@ -24,6 +24,16 @@ pub enum Fault {
     Begun,
     /// the job has not begun
     NotBegun,
+    /// the job has as many rows as a job accepts
+    RowLimit,
+    /// the job is not finished
+    NotFinished,
+    /// a ticket is out for the present row, or its plan is written
+    Ticketed,
+    /// the ticket is not the one that the job has out
+    WrongTicket,
+    /// the buffer is too short
+    ShortBuffer,
 }
 
 impl Fault {
@@ -42,6 +52,11 @@ impl Fault {
             Fault::OutOfRange => 8,
             Fault::Begun => 11,
             Fault::NotBegun => 12,
+            Fault::RowLimit => 13,
+            Fault::NotFinished => 14,
+            Fault::Ticketed => 15,
+            Fault::WrongTicket => 16,
+            Fault::ShortBuffer => 17,
         }
     }
 

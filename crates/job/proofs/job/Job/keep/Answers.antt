@@ -7,5 +7,5 @@ returns g c =
     let few = g .A·Augmenter·met .«dim_fits» (c .args .self .now .below) in
     record {
       below = refl;
-      after = same-view _ _ _ _ _ _ _ _ _ _ _ _ refl refl refl (row-back _ (c .args .prices .now) _ _ few (c .pre) (c .padded-self .ensures)) refl refl;
+      after = same-view _ _ _ _ _ _ _ _ _ _ _ _ _ _ refl refl refl (row-back _ (c .args .prices .now) _ _ few (c .pre) (c .padded-self .ensures)) refl refl refl;
     }
