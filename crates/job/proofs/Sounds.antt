@@ -1,6 +1,7 @@
 -- Soundness: a job just made has it, begin and advance keep it, and what it gives.
 use mathlib.Core.Path.{_≡_, refl, sym, ap, subst, _∙_}
 use mathlib.Core.List.{List}
+use mathlib.Core.Logic.{_⊎_, inl, inr, ⊎-elim}
 use Prim.Native.Nat.{ℕ, zero, suc, _+_, _-_, _*_, _^_, _≤_, _<_, min}
 use native.Mathlib.Omega.{arith}
 use lib.IntN.{ℤ, pos, _+ℤ_}
@@ -8,6 +9,7 @@ use lib.ListN.{length, replicate}
 use lib.Signed.{_≤ℤ_, _<ℤ_}
 use Rattle.std.proofs.shelf.Lists.{length-replicate}
 use Rattle.std.proofs.shelf.Signed.{ints}
+use Rattle.std.proofs.shelf.Tests.{cases-eq}
 use Rattle.std.specs.declared.result.Result.{Result}
 use Rattle.std.specs.declared.result.Result.the-variants.{Ok, Err}
 use Rattle.rows.specs.Points.{Point, Marks, Bad-mark}
@@ -22,8 +24,13 @@ use Rattle.job.specs.declared.parts.State.the-variants.{NotBegun, Open, Finish
 use Rattle.job.specs.declared.parts.Step.{Step}
 use Rattle.job.specs.declared.parts.Step.the-variants.{Improved, Closed, Done}
 use Rattle.job.specs.declared.parts.Totals.{Totals}
-use Rattle.job.specs.Views.{View, IsBegun, IsOpen, more, blank, opened, accepted, improved, closed, margin-at, left-at}
-use Rattle.job.specs.Calls.{begin-checks, question-checks, Began, Advanced, Advanced-from}
+use Rattle.job.specs.declared.parts.Ticket.{Ticket}
+use Rattle.job.specs.declared.parts.Ticketing.{Ticketing}
+use Rattle.job.specs.declared.parts.Ticketing.the-variants.{Unissued, Out, Written}
+use Rattle.job.specs.Views.{View, IsBegun, IsOpen, more, blank, opened, accepted, improved, closed, ticketed, margin-at, left-at}
+use Rattle.job.specs.Calls.{begin-checks, question-checks, Began, Advanced, Advanced-from, Repriced}
+use Rattle.job.specs.Tickets.{Issued, Valid, Withdrew}
+use Rattle.job.specs.Tries.{Tried-write}
 use Rattle.job.specs.Soundness.{Standing, Spent, Sound, left, Begin-keeps, Advance-keeps, Near}
 
 clash : {P : Type 0} {s : State} {k j : ℕ} → s ≡ Open k j → s ≡ Finished → P
@@ -232,6 +239,69 @@ module _ (n R : ℕ) (M : List ℕ → Type 0) (small : n ≤ 128) (low : R < 2 
   advance-keeps a b r g w =
       let k = advance-from a b (a .state) r refl g w (w .stands) (w .spent) in
       record { sound = k .0; refused = k .1; falls = k .2 }
+
+  -- a row taken by reprice
+  begun-member : (ps : List ℤ) (x : List ℕ) (s : State) → Standing R M ps x s → IsBegun s → M x
+  begun-member ps x NotBegun s b = absurd b
+  begun-member ps x (Open k j) s b = s .0
+  begun-member ps x Finished s b = s .0
+
+  pub reprice-sound : (a b : View) (ps : List ℤ) (r : Result (Unit {0}) Refusal) → Repriced n R a ps r b → Sound n R M a → Sound n R M b
+  reprice-sound a b ps (Ok u) g w =
+      let p = g .0 in
+      subst (Sound n R M) (sym (g .1))
+      (accepted-sound a (a .point) ps w (p .1 .0) (begun-member (a .prices) (a .point) (a .state) (w .stands) (p .0)) (p .1 .1 .0) (p .1 .1 .1 .0) .0)
+  reprice-sound a b ps (Err e) g w = subst (Sound n R M) (sym (g .1)) w
+
+-- the calls on tickets
+module _ (n R : ℕ) (M : List ℕ → Type 0) where
+
+  ticketed-sound : (a : View) (t : Ticketing) → Sound n R M a → ((t ≡ Unissued → ⊥) → a .state ≡ Finished) → Sound n R M (ticketed a t)
+  ticketed-sound a t w f = record {
+    point-long = w .point-long;
+    prices-long = w .prices-long;
+    stands = w .stands;
+    few-rows = w .few-rows;
+    asked = w .asked;
+    spent = w .spent;
+    ticket = f;
+  }
+
+  pub issue-sound : (a b : View) (r : Result Ticket Refusal) → Issued a r b → Sound n R M a → Sound n R M b
+  issue-sound a b (Ok t) g w = subst (Sound n R M) (sym (g .2)) (ticketed-sound a Out w (λ h. g .0 .1 .0))
+  issue-sound a b (Err e) g w = subst (Sound n R M) (sym (g .1)) w
+
+  -- a ticket is out only in a finished job
+  pub out-finished : (a : View) → Sound n R M a → a .ticketing ≡ Out → a .state ≡ Finished
+  out-finished a w e = w .ticket (λ h. let z : _≡_ {A = ℕ} 0 1 = cc in omega arith)
+
+  pub write-sound : (letter : ℕ) (a b : View) (m k room : ℕ) (r : Result (List ℕ) Refusal) → Tried-write letter n a m k room r b → Sound n R M a → Sound n R M b
+  write-sound letter a b m k room (Ok u) g w = subst (Sound n R M) (sym (g .1)) (ticketed-sound a Written w (λ h. out-finished a w (g .0 .0 .2)))
+  write-sound letter a b m k room (Err e) g w = subst (Sound n R M) (sym (g .1)) w
+
+  -- a ticket is valid or it is not
+  pub validity : (a : View) (m k : ℕ) → Valid a m k ⊎ (Valid a m k → ⊥)
+  validity a m k =
+      ⊎-elim
+      (λ (e : m ≡ a .number).
+        ⊎-elim
+        (λ (f : k ≡ a .totals .rows). by-ticketing (a .ticketing) refl e f)
+        (λ (f : k ≡ a .totals .rows → ⊥). inr (λ (v : Valid a m k). f (v .1)))
+        (cases-eq k (a .totals .rows)))
+      (λ (e : m ≡ a .number → ⊥). inr (λ (v : Valid a m k). e (v .0)))
+      (cases-eq m (a .number))
+    where
+      by-ticketing : (t : Ticketing) → a .ticketing ≡ t → m ≡ a .number → k ≡ a .totals .rows → Valid a m k ⊎ (Valid a m k → ⊥)
+      by-ticketing Unissued h e f = inr (λ (v : Valid a m k). let o = v .2 in let z : _≡_ {A = ℕ} 0 1 = cc in omega arith)
+      by-ticketing Out h e f = inl (e, f, h)
+      by-ticketing Written h e f = inr (λ (v : Valid a m k). let o = v .2 in let z : _≡_ {A = ℕ} 0 1 = cc in omega arith)
+
+  pub withdraw-sound : (a b : View) (m k : ℕ) → Withdrew a m k b → Sound n R M a → Sound n R M b
+  withdraw-sound a b m k g w =
+      ⊎-elim
+      (λ (v : Valid a m k). subst (Sound n R M) (sym (g .valid v)) (ticketed-sound a Unissued w (λ h. absurd (h refl))))
+      (λ (v : Valid a m k → ⊥). subst (Sound n R M) (sym (g .other v)) w)
+      (validity a m k)
 
 -- what soundness gives: the point is a member, and no member is cheaper by more than the margin
 module _ (n R : ℕ) (M : List ℕ → Type 0) (v : View) (w : Sound n R M v) where

@@ -6,3 +6,4 @@ pub mod parts;
 mod question;
 pub mod reads;
 pub mod tickets;
+pub mod tries;
