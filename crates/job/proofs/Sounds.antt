@@ -49,7 +49,7 @@ blank-sound m n R M = record {
 }
 
 -- the totals bound the questions of all rows so far, whatever the state
-totals-few : (R : ℕ) (M : List ℕ → Type 0) (ps : List ℤ) (x : List ℕ) (t : Totals) (s : State) → Standing R M ps x s → Spent ps t s →
+pub totals-few : (R : ℕ) (M : List ℕ → Type 0) (ps : List ℤ) (x : List ℕ) (t : Totals) (s : State) → Standing R M ps x s → Spent ps t s →
     (t .improved ≤ t .rows * 5120) × (t .closed ≤ t .rows * 40)
 totals-few R M ps x t NotBegun st sp = (omega arith, omega arith)
 totals-few R M ps x t (Open k j) st sp = let e = ones-below-suc k ps in (omega arith, omega arith)
@@ -115,7 +115,7 @@ closed-falls ps zero j b = let e = ones-below-suc 0 ps in omega arith
 closed-falls ps (suc k) j b = let e = ones-below-suc (suc k) ps in omega arith
 
 -- a point improved
-stands-improved : (n R : ℕ) (M : List ℕ → Type 0) (ps : List ℤ) (x o : List ℕ) (k j : ℕ) → n ≤ 128 → length ps ≡ n → Standing R M ps x (Open k j) →
+pub stands-improved : (n R : ℕ) (M : List ℕ → Type 0) (ps : List ℤ) (x o : List ℕ) (k j : ℕ) → n ≤ 128 → length ps ≡ n → Standing R M ps x (Open k j) →
     Cheaper M (row-at k ps) x o → (more j ≡ j + 1) × (j < bits k ps) × Standing R M ps o (Open k (more j))
 stands-improved n R M ps x o k j small len s h =
     let here = s .4 o (h .0) in
@@ -141,7 +141,7 @@ module _ (n R : ℕ) (M : List ℕ → Type 0) (small : n ≤ 128) (low : R < 2 
   marks-good : (x : List ℕ) (i : ℕ) → Marks x → Bad-mark x i → ⊥
   marks-good x i m b = let h = m i (b .0) in let g = b .1 in omega arith
 
-  never-refused : (ps : List ℤ) (x : List ℕ) (k : ℕ) (e : Refusal) → length ps ≡ n → M x → weight ps ≤ R → Refused-by (checks n R M (row-at k ps) x n) e → ⊥
+  pub never-refused : (ps : List ℤ) (x : List ℕ) (k : ℕ) (e : Refusal) → length ps ≡ n → M x → weight ps ≤ R → Refused-by (checks n R M (row-at k ps) x n) e → ⊥
   never-refused ps x k e l m w r =
       let light : weight (row-at k ps) ≤ R = omega (arith, weight-at k ps) in
       not-both (checks n R M (row-at k ps) x n) e
