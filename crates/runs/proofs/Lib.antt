@@ -1,3 +1,4 @@
 mod Counts
 mod Plans
 mod Lists
+mod Ends
