@@ -165,7 +165,7 @@ module _ (n R : ℕ) (M : List ℕ → Type 0) (small : n ≤ 128) (low : R < 2 
           few-rows = omega arith;
           asked = w .asked;
           spent = spent-opened ps (a .totals) (planes ps) (more (a .totals .rows)) (few-planes ps (omega arith)) u (omega arith) more-rows (f .0) (f .1);
-        ticket = λ h. absurd (h refl);
+          ticket = λ h. absurd (h refl);
         },
         left-opened ps (planes ps) refl u,
       )
@@ -255,7 +255,6 @@ module _ (n R : ℕ) (M : List ℕ → Type 0) (small : n ≤ 128) (low : R < 2 
 
 -- the calls on tickets
 module _ (n R : ℕ) (M : List ℕ → Type 0) where
-
   ticketed-sound : (a : View) (t : Ticketing) → Sound n R M a → ((t ≡ Unissued → ⊥) → a .state ≡ Finished) → Sound n R M (ticketed a t)
   ticketed-sound a t w f = record {
     point-long = w .point-long;
@@ -284,10 +283,10 @@ module _ (n R : ℕ) (M : List ℕ → Type 0) where
   validity a m k =
       ⊎-elim
       (λ (e : m ≡ a .number).
-        ⊎-elim
-        (λ (f : k ≡ a .totals .rows). by-ticketing (a .ticketing) refl e f)
-        (λ (f : k ≡ a .totals .rows → ⊥). inr (λ (v : Valid a m k). f (v .1)))
-        (cases-eq k (a .totals .rows)))
+      ⊎-elim
+      (λ (f : k ≡ a .totals .rows). by-ticketing (a .ticketing) refl e f)
+      (λ (f : k ≡ a .totals .rows → ⊥). inr (λ (v : Valid a m k). f (v .1)))
+      (cases-eq k (a .totals .rows)))
       (λ (e : m ≡ a .number → ⊥). inr (λ (v : Valid a m k). e (v .0)))
       (cases-eq m (a .number))
     where

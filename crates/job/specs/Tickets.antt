@@ -56,3 +56,12 @@ Wrote letter n a m k u (Err e) b u′ =
 pub record Withdrew (a : View) (m k : ℕ) (b : View) : Type 0 where
   pub valid : Valid a m k → b ≡ ticketed a Unissued
   pub other : (Valid a m k → ⊥) → b ≡ a
+
+-- issue and write in one
+abbrev pub plan-checks : View → ℕ → List Check
+plan-checks a room = issue-checks a ++ (ask ShortBuffer (46 ≤ room) ∷ [])
+
+abbrev pub Wrote-plan : ℕ → ℕ → View → List ℕ → Result (Unit {0}) Refusal → View → List ℕ → Type 0
+Wrote-plan letter n a u (Ok _) b u′ =
+    Passes (plan-checks a (length u)) × (b ≡ ticketed a Written) × (u′ ≡ plan-bytes (plan-of letter n a) ++ drop 46 u)
+Wrote-plan letter n a u (Err e) b u′ = Refused-by (plan-checks a (length u)) e × (b ≡ a) × (u′ ≡ u)

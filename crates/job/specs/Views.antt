@@ -134,7 +134,14 @@ closed a k = record {
 -- the job a with another state of its ticket
 abbrev pub ticketed : View → Ticketing → View
 ticketed a t = record {
-  number = a .number; state = a .state; point = a .point; prices = a .prices; totals = a .totals; ledger = a .ledger; ticketing = t }
+  number = a .number;
+  state = a .state;
+  point = a .point;
+  prices = a .prices;
+  totals = a .totals;
+  ledger = a .ledger;
+  ticketing = t;
+}
 
 -- the margin: with plane k open and j improvements since, what the planes up to k can still bring; else 0
 abbrev pub margin-at : List ℤ → State → ℕ

@@ -115,7 +115,7 @@ impl<A: Augmenter> Job<A> {
     {
         match self.state {
             State::Open { plane, improved } => open_left(self.prices(), plane, improved),
-            State::NotBegun | State::Finished => 0,
+            State::Finished | State::NotBegun => 0,
         }
     }
 }

@@ -2,7 +2,7 @@ ghost use mathlib.Core.Path.{_≡_};
 ghost use Prim.Native.Nat.{ℕ};
 ghost use Rattle.job.specs.Jobs.{view};
 ghost use Rattle.std.specs.Orderings.{Decides};
-ghost use Rattle.job.specs.Tickets.{Issued, Valid, Wrote, Withdrew, plan-of};
+ghost use Rattle.job.specs.Tickets.{Issued, Valid, Wrote, Withdrew, Wrote-plan, plan-of};
 use crate::job::Job;
 use crate::parts::State;
 use crate::parts::Ticket;
@@ -30,7 +30,10 @@ impl<A: Augmenter> Job<A> {
             Ticketing::Out | Ticketing::Written => return Err(Fault::Ticketed.at(0)),
         }
         self.ticketing = Ticketing::Out;
-        Ok(Ticket { number: self.number, row: self.totals.rows })
+        Ok(Ticket {
+            number: self.number,
+            row: self.totals.rows,
+        })
     }
 
     /// What the job's plan says.
@@ -84,6 +87,23 @@ impl<A: Augmenter> Job<A> {
         let Ticket { number, row } = ticket;
         if self.has_out(number, row) {
             self.ticketing = Ticketing::Unissued;
+        }
+    }
+
+    /// Issues the ticket for the present row and writes its plan with it; where the buffer is too short, the ticket is withdrawn.
+    pub fn write_plan(&mut self, buffer: &mut [u8]) -> Result<(), Refusal>
+        ensures below { λ _. ⌜ now (self .exit) .below ≡ now (self .entry) .below ⌝ }
+        ensures moves { λ r. ⌜ Wrote-plan kind (dim (now (self .entry) .below)) (view dim (now (self .entry))) (now (buffer .entry)) r (view dim (now (self .exit))) (now (buffer .exit)) ⌝ }
+    {
+        match self.issue() {
+            Ok(ticket) => match self.write(ticket, buffer) {
+                Ok(()) => Ok(()),
+                Err((back, _)) => {
+                    self.withdraw(back);
+                    Err(Fault::ShortBuffer.at(0))
+                }
+            },
+            Err(refusal) => Err(refusal),
         }
     }
 }

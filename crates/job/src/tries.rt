@@ -102,7 +102,10 @@ impl<A: Augmenter> Job<A> {
             Call::Issue => of_issue(self.issue()),
             Call::Write { number, row, room } => of_write(self.try_write(*number, *row, *room)),
             Call::Withdraw { number, row } => {
-                self.withdraw(Ticket { number: *number, row: *row });
+                self.withdraw(Ticket {
+                    number: *number,
+                    row: *row,
+                });
                 Outcome::Withdrawn
             }
         }

@@ -9,7 +9,6 @@ ghost use Rattle.rows.specs.Bytes.{big-endian, signed-bytes};
 ghost use Rattle.rows.specs.Refusals.{ask, Refused-by};
 ghost use Rattle.rows.specs.declared.refusals.Fault.the-variants.{ShortBuffer};
 ghost use Rattle.plans.specs.Bytes.{plan-bytes};
-
 use rows::packed::Packed;
 use rows::refusals::Fault;
 use rows::refusals::Refusal;

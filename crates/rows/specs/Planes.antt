@@ -13,10 +13,10 @@ twice p = p +ℤ p
 pub record Plane-laws (k : ℕ) (ps : List ℤ) : Type 0 where
   -- twice an advantage at plane k + 1 is one at plane k, up to the magnitudes that have bit k
   pub next : (x y : List ℕ) →
-    (twice (price (row-at (suc k) ps) y) +ℤ price (row-at k ps) x) ≤ℤ ((twice (price (row-at (suc k) ps) x) +ℤ price (row-at k ps) y) +ℤ pos (bits k ps))
+      (twice (price (row-at (suc k) ps) y) +ℤ price (row-at k ps) x) ≤ℤ ((twice (price (row-at (suc k) ps) x) +ℤ price (row-at k ps) y) +ℤ pos (bits k ps))
   -- an advantage at plane k is one at the full prices, up to the remainders
   pub full : (x y : List ℕ) (j b : ℕ) → (price (row-at k ps) x +ℤ pos j) ≤ℤ (price (row-at k ps) y +ℤ pos b) →
-    (price ps x +ℤ pos (j * 2 ^ k)) ≤ℤ (price ps y +ℤ pos (b * 2 ^ k + remainders k ps))
+      (price ps x +ℤ pos (j * 2 ^ k)) ≤ℤ (price ps y +ℤ pos (b * 2 ^ k + remainders k ps))
   -- remainders and ones, one plane up
   pub rest : remainders (suc k) ps ≡ bits k ps * 2 ^ k + remainders k ps
   pub low-ones : ones-below (suc k) ps ≡ bits k ps + ones-below k ps

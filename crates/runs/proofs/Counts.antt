@@ -67,7 +67,7 @@ turned t c o = record {
 }
 
 same-tally : (a a′ b b′ c c′ d d′ e e′ : ℕ) (r r′ : List ℤ) (f f′ : ℕ) → a ≡ a′ → b ≡ b′ → c ≡ c′ → d ≡ d′ → e ≡ e′ → r ≡ r′ → f ≡ f′ →
-  _≡_ {A = Tally} (record { gains = a; ends = b; all-ones = c; rows = d; since = e; row = r; writes = f }) (record { gains = a′; ends = b′; all-ones = c′; rows = d′; since = e′; row = r′; writes = f′ })
+    _≡_ {A = Tally} (record { gains = a; ends = b; all-ones = c; rows = d; since = e; row = r; writes = f }) (record { gains = a′; ends = b′; all-ones = c′; rows = d′; since = e′; row = r′; writes = f′ })
 same-tally a a′ b b′ c c′ d d′ e e′ r r′ f f′ ea eb ec ed ee er ef = cc
 
 pub tally-push : (h : List Turn) (c : Call) (o : Outcome) → tally (h ++ ((c, o) ∷ [])) ≡ turned (tally h) c o
@@ -104,14 +104,14 @@ gains-few R M ps x t Finished st p = p .0
 
 -- a turn that accepts no row, improves nothing and closes no plane
 quiet-held : (ps : List ℤ) (t : Tally) (c : Call) (o : Outcome) (s : State) → turned t c o .gains ≡ t .gains → turned t c o .all-ones ≡ t .all-ones →
-  turned t c o .rows ≡ t .rows → turned t c o .row ≡ t .row → (IsOpen s → turned t c o .since ≡ t .since) → Held ps t s → Held ps (turned t c o) s
+    turned t c o .rows ≡ t .rows → turned t c o .row ≡ t .row → (IsOpen s → turned t c o .since ≡ t .since) → Held ps t s → Held ps (turned t c o) s
 quiet-held ps t c o NotBegun eg eo er ep es p = (omega arith, omega arith)
 quiet-held ps t c o (Open k j) eg eo er ep es p = let e = es tt in (omega arith, omega arith, p .2 ∙ sym ep, omega arith)
 quiet-held ps t c o Finished eg eo er ep es p = (omega arith, p .1 ∙ sym ep, omega arith)
 
 quiet-kept : (m : ℕ) (a : View) (t : Tally) (c : Call) (o : Outcome) → turned t c o .gains ≡ t .gains → turned t c o .ends ≡ t .ends → turned t c o .all-ones ≡ t .all-ones →
-  turned t c o .rows ≡ t .rows → turned t c o .row ≡ t .row → (IsOpen (a .state) → turned t c o .since ≡ t .since) → turned t c o .writes ≡ t .writes →
-  Kept m a t → Kept m a (turned t c o)
+    turned t c o .rows ≡ t .rows → turned t c o .row ≡ t .row → (IsOpen (a .state) → turned t c o .since ≡ t .since) → turned t c o .writes ≡ t .writes →
+    Kept m a t → Kept m a (turned t c o)
 quiet-kept m a t c o eg ee eo er ep es ew k = record {
   number = k .number;
   improved = k .improved ∙ sym eg;
@@ -149,9 +149,8 @@ not-yet ps t (Open k j) e p = let z : _≡_ {A = ℕ} 0 1 = cc in omega arith
 not-yet ps t Finished e p = let z : _≡_ {A = ℕ} 0 1 = cc in omega arith
 
 module _ (letter n R m : ℕ) (M : List ℕ → Type 0) (small : n ≤ 128) (low : R < 2 ^ 40) (points : (y : List ℕ) → M y → Point n y) where
-
   accepted-kept : (a : View) (t : Tally) (c : Call) (x : List ℕ) (ps : List ℤ) → Sound n R M a → Kept m a t → a .totals .rows < 1000 →
-    ps ≡ row-of c → weight ps ≤ R → Kept m (accepted a x ps) (turned t c Accepted)
+      ps ≡ row-of c → weight ps ≤ R → Kept m (accepted a x ps) (turned t c Accepted)
   accepted-kept a t c x ps w k few q light =
       let top = top-light ps in
       let g = gains-few R M (a .prices) (a .point) t (a .state) (w .stands) (k .held) in
@@ -165,7 +164,7 @@ module _ (letter n R m : ℕ) (M : List ℕ → Type 0) (small : n ≤ 128) (low
       }
 
   begin-kept : (a b : View) (t : Tally) (c : Call) (s : List ℕ) (ps : List ℤ) (r : Result (Unit {0}) Refusal) → ps ≡ row-of c → advance c ≡ 0 →
-    Began n R M a s ps r b → Sound n R M a → Kept m a t → Kept m b (turned t c (row-outcome r))
+      Began n R M a s ps r b → Sound n R M a → Kept m a t → Kept m b (turned t c (row-outcome r))
   begin-kept a b t c s ps (Ok u) q z g w k =
       let none = not-yet (a .prices) t (a .state) (g .0 .0) (k .held) in
       let same = k .rows in
@@ -176,7 +175,7 @@ module _ (letter n R m : ℕ) (M : List ℕ → Type 0) (small : n ≤ 128) (low
       subst P (sym (g .1)) (refused-kept m a t c e (λ h. z) k)
 
   reprice-kept : (a b : View) (t : Tally) (c : Call) (ps : List ℤ) (r : Result (Unit {0}) Refusal) → ps ≡ row-of c → advance c ≡ 0 →
-    Repriced n R a ps r b → Sound n R M a → Kept m a t → Kept m b (turned t c (row-outcome r))
+      Repriced n R a ps r b → Sound n R M a → Kept m a t → Kept m b (turned t c (row-outcome r))
   reprice-kept a b t c ps (Ok u) q z g w k =
       let P : View → Type 0 = λ v. Kept m v (turned t c Accepted) in
       subst P (sym (g .1)) (accepted-kept a t c (a .point) ps w k (g .0 .1 .0) q (g .0 .1 .1 .1 .0))
@@ -188,7 +187,7 @@ module _ (letter n R m : ℕ) (M : List ℕ → Type 0) (small : n ≤ 128) (low
   not-open s s′ e f o = f (subst IsOpen e o)
 
   advance-kept-from : (a b : View) (t : Tally) (s : State) (r : Result Step Refusal) → a .state ≡ s → Advanced-from n R M a s r b → Sound n R M a →
-    Standing R M (a .prices) (a .point) s → Held (a .prices) t s → Kept m a t → Kept m b (turned t Advance (step-outcome r))
+      Standing R M (a .prices) (a .point) s → Held (a .prices) t s → Kept m a t → Kept m b (turned t Advance (step-outcome r))
   advance-kept-from a b t NotBegun (Ok x) es g w st p k = absurd g
   advance-kept-from a b t NotBegun (Err e) es g w st p k =
       let P : View → Type 0 = λ v. Kept m v (turned t Advance (Refused e)) in
@@ -236,14 +235,14 @@ module _ (letter n R m : ℕ) (M : List ℕ → Type 0) (small : n ≤ 128) (low
       let P : View → Type 0 = λ v. Kept m v (turned t Issue (Given (x .number) (x .row))) in
       let q = quiet-kept m a t Issue (Given (x .number) (x .row)) (omega arith) (omega arith) (omega arith) (omega arith) refl (λ h. omega arith) (omega arith) k in
       subst P (sym (g .2)) (ticketed-kept m a Out (turned t Issue (Given (x .number) (x .row))) q (λ h.
-        let u = g .0 .1 .1 .0 in
-        q .wrote (λ z. let y : _≡_ {A = ℕ} 0 1 = cc in omega arith)))
+      let u = g .0 .1 .1 .0 in
+      q .wrote (λ z. let y : _≡_ {A = ℕ} 0 1 = cc in omega arith)))
   issue-kept a b t (Err e) g k =
       let P : View → Type 0 = λ v. Kept m v (turned t Issue (Refused e)) in
       subst P (sym (g .1)) (refused-kept m a t Issue e (λ h. refl) k)
 
   write-kept : (a b : View) (t : Tally) (i j room : ℕ) (r : Result (List ℕ) Refusal) → Tried-write letter n a i j room r b → Kept m a t →
-    Kept m b (turned t (Write i j room) (write-outcome r))
+      Kept m b (turned t (Write i j room) (write-outcome r))
   write-kept a b t i j room (Ok u) g k =
       let o = Written u in
       let P : View → Type 0 = λ v. Kept m v (turned t (Write i j room) (Written u)) in
@@ -265,14 +264,14 @@ module _ (letter n R m : ℕ) (M : List ℕ → Type 0) (small : n ≤ 128) (low
       let q = quiet-kept m a t (Withdraw i j) Withdrawn (omega arith) (omega arith) (omega arith) (omega arith) refl (λ h. omega arith) (omega arith) k in
       ⊎-elim
       (λ (v : Valid a i j). subst P (sym (g .valid v)) (ticketed-kept m a Unissued (turned t (Withdraw i j) Withdrawn) q (λ h.
-        let o = v .2 in
-        q .wrote (λ z. let y : _≡_ {A = ℕ} 0 1 = cc in omega arith))))
+      let o = v .2 in
+      q .wrote (λ z. let y : _≡_ {A = ℕ} 0 1 = cc in omega arith))))
       (λ (v : Valid a i j → ⊥). subst P (sym (g .other v)) q)
       (validity n R M a i j)
 
   -- one call tried
   pub call-keeps : (a b : View) (h : List Turn) (c : Call) (o : Outcome) → Sound n R M a → Kept m a (tally h) → Tried-call letter n R M a c o b →
-    Sound n R M b × Kept m b (tally (h ++ ((c, o) ∷ [])))
+      Sound n R M b × Kept m b (tally (h ++ ((c, o) ∷ [])))
   call-keeps a b h c o w k g =
       let both = by-call c g in
       (both .0, subst (Kept m b) (sym (tally-push h c o)) (both .1))
@@ -281,19 +280,23 @@ module _ (letter n R m : ℕ) (M : List ℕ → Type 0) (small : n ≤ 128) (low
       at-outcome c o o′ e k = let P : Outcome → Type 0 = λ z. Kept m b (turned (tally h) c z) in subst P (sym e) k
 
       by-call : (c : Call) → Tried-call letter n R M a c o b → Sound n R M b × Kept m b (turned (tally h) c o)
-      by-call (Begin s p) g =
-          (begin-keeps n R M small low points a b (now s) (now p) (g .0) (g .1 .1) w .sound,
-          at-outcome (Begin s p) o _ (g .1 .0) (begin-kept a b (tally h) (Begin s p) (now s) (now p) (g .0) refl refl (g .1 .1) w k))
-      by-call Advance g =
-          (advance-keeps n R M small low points a b (g .0) (g .1 .1) w .sound,
-          at-outcome Advance o _ (g .1 .0) (advance-kept-from a b (tally h) (a .state) (g .0) refl (g .1 .1) w (w .stands) (k .held) k))
-      by-call (Reprice p) g =
-          (reprice-sound n R M small low points a b (now p) (g .0) (g .1 .1) w,
-          at-outcome (Reprice p) o _ (g .1 .0) (reprice-kept a b (tally h) (Reprice p) (now p) (g .0) refl refl (g .1 .1) w k))
+      by-call (Begin s p) g = (
+        begin-keeps n R M small low points a b (now s) (now p) (g .0) (g .1 .1) w .sound,
+        at-outcome (Begin s p) o _ (g .1 .0) (begin-kept a b (tally h) (Begin s p) (now s) (now p) (g .0) refl refl (g .1 .1) w k),
+      )
+      by-call Advance g = (
+        advance-keeps n R M small low points a b (g .0) (g .1 .1) w .sound,
+        at-outcome Advance o _ (g .1 .0) (advance-kept-from a b (tally h) (a .state) (g .0) refl (g .1 .1) w (w .stands) (k .held) k),
+      )
+      by-call (Reprice p) g = (
+        reprice-sound n R M small low points a b (now p) (g .0) (g .1 .1) w,
+        at-outcome (Reprice p) o _ (g .1 .0) (reprice-kept a b (tally h) (Reprice p) (now p) (g .0) refl refl (g .1 .1) w k),
+      )
       by-call Issue g =
           (issue-sound n R M a b (g .0) (g .1 .1) w, at-outcome Issue o _ (g .1 .0) (issue-kept a b (tally h) (g .0) (g .1 .1) k))
-      by-call (Write i j room) g =
-          (write-sound n R M letter a b i j room (g .0) (g .1 .1) w,
-          at-outcome (Write i j room) o _ (g .1 .0) (write-kept a b (tally h) i j room (g .0) (g .1 .1) k))
+      by-call (Write i j room) g = (
+        write-sound n R M letter a b i j room (g .0) (g .1 .1) w,
+        at-outcome (Write i j room) o _ (g .1 .0) (write-kept a b (tally h) i j room (g .0) (g .1 .1) k),
+      )
       by-call (Withdraw i j) g =
           (withdraw-sound n R M a b i j (g .1) w, at-outcome (Withdraw i j) o _ (g .0) (withdraw-kept a b (tally h) i j (g .1) k))

@@ -68,7 +68,6 @@ left-open : (R : ℕ) (M : List ℕ → Type 0) (ps : List ℤ) (x : List ℕ) (
 left-open R M ps x k j st = let e = ones-below-suc k ps in omega (arith, st .3)
 
 module _ (n R : ℕ) (M : List ℕ → Type 0) (small : n ≤ 128) (low : R < 2 ^ 40) (points : (y : List ℕ) → M y → Point n y) where
-
   -- what one advance does, by the state before it
   pub record Step-on (b c : View) : Type 0 where
     pub begun : IsBegun (c .state)
@@ -155,7 +154,7 @@ module _ (n R : ℕ) (M : List ℕ → Type 0) (small : n ≤ 128) (low : R < 2 
   begun-or-not a b i g e Finished es = tt
 
   last-from : (a b c : View) (i : ℕ) (r : Step) (s : State) → b .state ≡ s → left a ≤ i → Going n R M a b i → Standing R M (b .prices) (b .point) s → Advanced-from n R M b s (Ok r) c →
-    (b .state ≡ Finished) × (c ≡ b)
+      (b .state ≡ Finished) × (c ≡ b)
   last-from a b c i r NotBegun es h g st q = absurd q
   last-from a b c i r (Open k j) es h g st q =
       let o = g .to-come (subst IsOpen (sym es) tt) in
@@ -172,17 +171,19 @@ module _ (n R : ℕ) (M : List ℕ → Type 0) (small : n ≤ 128) (low : R < 2 
       let begun = begun-or-not a b i g (f .0) (a .state) refl in
       let C : List ℤ → Type 0 = λ ps. Cheapest M ps (b .point) in
       let P : View → Type 0 = λ v. Finishes n R M a v in
-      let none : planes-left (b .state) ≡ 0 = ap planes-left (f .0) in
-      (begun, subst P (sym (f .1)) (record {
-        finished = f .0;
-        sound = g .sound;
-        row = g .row;
-        member = member n R M b (g .sound) (g .begun begun);
-        cheapest = subst C (g .row) (cheapest n R M b (g .sound) (f .0));
-        closed = omega (arith, g .closed);
-        asked = omega (arith, g .asked);
-        rows = g .rows;
-      }))
+      let none : planes-left (b .state) ≡ 0 = ap planes-left (f .0) in (
+        begun,
+        subst P (sym (f .1)) (record {
+          finished = f .0;
+          sound = g .sound;
+          row = g .row;
+          member = member n R M b (g .sound) (g .begun begun);
+          cheapest = subst C (g .row) (cheapest n R M b (g .sound) (f .0));
+          closed = omega (arith, g .closed);
+          asked = omega (arith, g .asked);
+          rows = g .rows;
+        }),
+      )
 
   refused-from : (b c : View) (s : State) (e : Refusal) → s ≡ NotBegun → Advanced-from n R M b s (Err e) c → (e ≡ record { fault = Not-begun; place = 0 }) × (c ≡ b)
   refused-from b c NotBegun e es q = q
@@ -204,5 +205,5 @@ module _ (n R : ℕ) (M : List ℕ → Type 0) (small : n ≤ 128) (low : R < 2 
 
 -- an advance told at the augmenter of the job then is one at that of the job before
 pub advanced-at : {X : Type 0} (d r : X → ℕ) (M : X → List ℕ → Type 0) (x y : X) (a b : View) (t : Result Step Refusal) → x ≡ y →
-  Advanced (d x) (r x) (M x) a t b → Advanced (d y) (r y) (M y) a t b
+    Advanced (d x) (r x) (M x) a t b → Advanced (d y) (r y) (M y) a t b
 advanced-at {X} d r M x y a b t e g = let P : X → Type 0 = λ z. Advanced (d z) (r z) (M z) a t b in subst P e g

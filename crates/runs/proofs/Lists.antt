@@ -26,14 +26,14 @@ use Rattle.runs.proofs.Counts.{Tally, tally, Held, Kept, call-keeps, gains-few
 use Rattle.runs.proofs.Plans.{Each, turn-after, each-more}
 
 turns-push : (cs : List Call) (os : List Outcome) (c : Call) (o : Outcome) → length os ≡ length cs →
-  turns (cs ++ (c ∷ [])) (os ++ (o ∷ [])) ≡ turns cs os ++ ((c, o) ∷ [])
+    turns (cs ++ (c ∷ [])) (os ++ (o ∷ [])) ≡ turns cs os ++ ((c, o) ∷ [])
 turns-push [] [] c o e = refl
 turns-push [] (p ∷ os) c o e = absurd (omega arith)
 turns-push (b ∷ cs) [] c o e = absurd (omega arith)
 turns-push (b ∷ cs) (p ∷ os) c o e = ap (λ (z : List Turn). (b, p) ∷ z) (turns-push cs os c o (omega arith))
 
 runs-more : (letter n R : ℕ) (M : List ℕ → Type 0) (v : View) (cs : List Call) (os : List Outcome) (u : View) (c : Call) (o : Outcome) (w : View) →
-  Runs letter n R M v cs os u → Tried-call letter n R M u c o w → Runs letter n R M v (cs ++ (c ∷ [])) (os ++ (o ∷ [])) w
+    Runs letter n R M v cs os u → Tried-call letter n R M u c o w → Runs letter n R M v (cs ++ (c ∷ [])) (os ++ (o ∷ [])) w
 runs-more letter n R M v [] [] u c o w r s = let P : View → Type 0 = λ z. Tried-call letter n R M z c o w in (w, (subst P (sym r) s, refl))
 runs-more letter n R M v [] (p ∷ os) u c o w r s = absurd r
 runs-more letter n R M v (b ∷ cs) [] u c o w r s = absurd r
@@ -59,9 +59,8 @@ gone-none letter n R m M v e =
     })
 
 module _ (letter n R m : ℕ) (M : List ℕ → Type 0) (small : n ≤ 128) (low : R < 2 ^ 40) (points : (y : List ℕ) → M y → Point n y) where
-
   gone-push : (v w : View) (cs : List Call) (os : List Outcome) (c : Call) (o : Outcome) → Gone letter n R m M cs os v → Tried-call letter n R M v c o w →
-    Gone letter n R m M (cs ++ (c ∷ [])) (os ++ (o ∷ [])) w
+      Gone letter n R m M (cs ++ (c ∷ [])) (os ++ (o ∷ [])) w
   gone-push v w cs os c o g s =
       let h = turns cs os in
       let p = turns-push cs os c o (g .long) in
@@ -79,8 +78,8 @@ module _ (letter n R m : ℕ) (M : List ℕ → Type 0) (small : n ≤ 128) (low
 
   -- call i of a list, its outcome put into memory
   pub gone-more : (v w : View) (calls : List Call) (os : List Outcome) (i : ℕ) (d : Call) (o : Outcome) → i < length calls → i < length os →
-    Gone letter n R m M (take i calls) (take i os) v → Tried-call letter n R M v (getD calls i d) o w →
-    Gone letter n R m M (take (i + 1) calls) (take (i + 1) (set os i o)) w
+      Gone letter n R m M (take i calls) (take i os) v → Tried-call letter n R M v (getD calls i d) o w →
+      Gone letter n R m M (take (i + 1) calls) (take (i + 1) (set os i o)) w
   gone-more v w calls os i d o h l g s =
       let P : List Call → Type 0 = λ cs. Gone letter n R m M cs (take (i + 1) (set os i o)) w in
       let Q : List Outcome → Type 0 = λ z. Gone letter n R m M (take i calls ++ (getD calls i d ∷ [])) z w in
@@ -129,8 +128,8 @@ module _ (letter n R m : ℕ) (M : List ℕ → Type 0) (small : n ≤ 128) (low
           ends = ends-at (v .prices) (v .point) (tally h) (v .state) (w .stands) (k .held);
           row = λ b. rows-at (v .prices) (tally h) (v .state) (k .held) b .0;
           near = λ b.
-            let N : List ℤ → Type 0 = λ ps. Near M v (margin-at ps (v .state)) in
-            subst N (rows-at (v .prices) (tally h) (v .state) (k .held) b .0) (near n R M v w b);
+              let N : List ℤ → Type 0 = λ ps. Near M v (margin-at ps (v .state)) in
+              subst N (rows-at (v .prices) (tally h) (v .state) (k .held) b .0) (near n R M v w b);
           finished = finished-at (present h) (v .state);
           each = g .each;
         };
@@ -138,7 +137,7 @@ module _ (letter n R m : ℕ) (M : List ℕ → Type 0) (small : n ≤ 128) (low
 
 -- a call told at the augmenter of the job then is one at that of the job before
 pub call-at : {X : Type 0} (letter : ℕ) (d r : X → ℕ) (M : X → List ℕ → Type 0) (a b : X) (v w : View) (c : Call) (o : Outcome) → a ≡ b →
-  Tried-call letter (d a) (r a) (M a) v c o w → Tried-call letter (d b) (r b) (M b) v c o w
+    Tried-call letter (d a) (r a) (M a) v c o w → Tried-call letter (d b) (r b) (M b) v c o w
 call-at {X} letter d r M a b v w c o e s = let P : X → Type 0 = λ z. Tried-call letter (d z) (r z) (M z) v c o w in subst P e s
 
 -- the memory beyond the outcomes

@@ -65,15 +65,14 @@ no-rows ps t (Open k j) e p = let z : _≡_ {A = ℕ} 0 1 = cc in absurd (omega 
 no-rows ps t Finished e p = let z : _≡_ {A = ℕ} 0 1 = cc in absurd (omega arith)
 
 same-plan : (k d m m′ : ℕ) (x : List ℕ) (p p′ : ℤ) (a a′ i i′ : ℕ) → m ≡ m′ → p ≡ p′ → a ≡ a′ → i ≡ i′ →
-  _≡_ {A = Plan}
-  (record { kind = k; dimension = d; number = m; point = x; price = p; asked = a; improved = i })
-  (record { kind = k; dimension = d; number = m′; point = x; price = p′; asked = a′; improved = i′ })
+    _≡_ {A = Plan}
+    (record { kind = k; dimension = d; number = m; point = x; price = p; asked = a; improved = i })
+    (record { kind = k; dimension = d; number = m′; point = x; price = p′; asked = a′; improved = i′ })
 same-plan k d m m′ x p p′ a a′ i i′ em ep ea ei = cc
 
 module _ (letter n R m : ℕ) (M : List ℕ → Type 0) (small : n ≤ 128) (low : R < 2 ^ 40) (points : (y : List ℕ) → M y → Point n y) where
-
   wrote-plan : (a b : View) (h : List Turn) (i j room : ℕ) (r : Result (List ℕ) Refusal) (u : List ℕ) → Tried-write letter n a i j room r b →
-    Sound n R M a → Kept m a (tally h) → write-outcome r ≡ Written u → Plan-after letter n m M h u
+      Sound n R M a → Kept m a (tally h) → write-outcome r ≡ Written u → Plan-after letter n m M h u
   wrote-plan a b h i j room (Ok x) u g w k e =
       let f = out-finished n R M a w (g .0 .0 .2) in
       let q = finished-row (a .prices) (tally h) (a .state) f (k .held) in
@@ -95,7 +94,7 @@ module _ (letter n R m : ℕ) (M : List ℕ → Type 0) (small : n ≤ 128) (low
 
   -- the turn of a call that was tried
   pub turn-after : (a b : View) (h : List Turn) (c : Call) (o : Outcome) → Sound n R M a → Kept m a (tally h) → Tried-call letter n R M a c o b →
-    Turn-after letter n m M h (c, o)
+      Turn-after letter n m M h (c, o)
   turn-after a b h (Begin s p) o w k g = record {
     plan = λ u e. absurd (row-no-plan (g .0) u (sym (g .1 .0) ∙ e));
     answered = λ e x y. let z : _≡_ {A = ℕ} 0 1 = cc in absurd (omega arith);
@@ -133,11 +132,11 @@ module _ (letter n R m : ℕ) (M : List ℕ → Type 0) (small : n ≤ 128) (low
       let D : Turn = (Advance, Withdrawn) in
       let P : List Turn → Turn → Type 0 = λ z y. Turn-after letter n m M z y in
       elim (cases-lt i (length h)) [
-        inl lt ↦
-          subst (λ (z : List Turn). P z (getD (h ++ (t ∷ [])) i D)) (sym (take-append-le i h (t ∷ []) (omega arith)))
-          (subst (λ (y : Turn). P (take i h) y) (sym (getD-append-left h (t ∷ []) D i lt)) (q i lt))
-      | inr ge ↦
-          let e : length h ≡ i = omega (arith, length-append h (t ∷ [])) in
-          subst (λ (z : List Turn). P z (getD (h ++ (t ∷ [])) i D)) (sym (take-at h (t ∷ []) i e))
-          (subst (λ (y : Turn). P h y) (sym (getD-push h t D i e)) g)
+        | inl lt ↦
+            subst (λ (z : List Turn). P z (getD (h ++ (t ∷ [])) i D)) (sym (take-append-le i h (t ∷ []) (omega arith)))
+            (subst (λ (y : Turn). P (take i h) y) (sym (getD-append-left h (t ∷ []) D i lt)) (q i lt))
+        | inr ge ↦
+            let e : length h ≡ i = omega (arith, length-append h (t ∷ [])) in
+            subst (λ (z : List Turn). P z (getD (h ++ (t ∷ [])) i D)) (sym (take-at h (t ∷ []) i e))
+            (subst (λ (y : Turn). P h y) (sym (getD-push h t D i e)) g)
       ]

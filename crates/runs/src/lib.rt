@@ -6,6 +6,7 @@ ghost use lib.ListN.{length, take, drop};
 ghost use Rattle.job.specs.Views.{blank};
 ghost use Rattle.job.specs.Jobs.{view};
 ghost use Rattle.runs.specs.Promise.{Runs, Tried};
+
 pub mod finishing;
 
 use augmenter::Augmenter;

@@ -18,10 +18,11 @@ loop-again g c =
     let A = g .A·Augmenter in
     let L = g .A·Augmenter·met in
     let a = c .args .job .now .below in
-    let h : c .loop .counter < left (view (A .dim) (c .args .job .now)) = omega (arith, c .questions-left-end .ensures) in
-    (c .in-rest .ensures tt .below ∙ c .loop .inv .0,
-    λ w. going-more (A .dim a) (A .reaches a) (A .Member a) (L .«dim_fits» a) (L .«reach_fits» a) (L .«member_is_point» a) (view (A .dim) (c .args .job .now)) (view (A .dim) (c .loop .job)) (view (A .dim) (c .advance .last .self)) (c .loop .counter) (c .in-rest .field-0) h (c .loop .inv .1 w)
-      (advanced-at (A .dim) (A .reaches) (A .Member) _ _ (view (A .dim) (c .loop .job)) (view (A .dim) (c .advance .last .self)) (Ok (c .in-rest .field-0)) (c .loop .inv .0) (c .in-rest .ensures tt .moves)))
+    let h : c .loop .counter < left (view (A .dim) (c .args .job .now)) = omega (arith, c .questions-left-end .ensures) in (
+      c .in-rest .ensures tt .below ∙ c .loop .inv .0,
+      λ w. going-more (A .dim a) (A .reaches a) (A .Member a) (L .«dim_fits» a) (L .«reach_fits» a) (L .«member_is_point» a) (view (A .dim) (c .args .job .now)) (view (A .dim) (c .loop .job)) (view (A .dim) (c .advance .last .self)) (c .loop .counter) (c .in-rest .field-0) h (c .loop .inv .1 w)
+          (advanced-at (A .dim) (A .reaches) (A .Member) _ _ (view (A .dim) (c .loop .job)) (view (A .dim) (c .advance .last .self)) (Ok (c .in-rest .field-0)) (c .loop .inv .0) (c .in-rest .ensures tt .moves)),
+    )
 
 pub returns-in-Err : need.returns-in-Err
 returns-in-Err g c =
@@ -32,7 +33,7 @@ returns-in-Err g c =
     record {
       below = c .in-Err .ensures tt .below ∙ c .loop .inv .0;
       ends = λ w. absurd
-        (going-on (A .dim a) (A .reaches a) (A .Member a) (L .«dim_fits» a) (L .«reach_fits» a) (L .«member_is_point» a) (view (A .dim) (c .args .job .now)) (view (A .dim) (c .loop .job)) (view (A .dim) (c .advance .last .self)) (c .loop .counter) (c .in-Err .refusal) h (c .loop .inv .1 w)
+          (going-on (A .dim a) (A .reaches a) (A .Member a) (L .«dim_fits» a) (L .«reach_fits» a) (L .«member_is_point» a) (view (A .dim) (c .args .job .now)) (view (A .dim) (c .loop .job)) (view (A .dim) (c .advance .last .self)) (c .loop .counter) (c .in-Err .refusal) h (c .loop .inv .1 w)
           (advanced-at (A .dim) (A .reaches) (A .Member) _ _ (view (A .dim) (c .loop .job)) (view (A .dim) (c .advance .last .self)) (Err (c .in-Err .refusal)) (c .loop .inv .0) (c .in-Err .ensures tt .moves)));
     }
 
@@ -45,7 +46,7 @@ returns-in-Ok g c =
     record {
       below = c .in-Ok .ensures tt .below ∙ c .loop .inv .0;
       ends = λ w.
-        finish-ok (A .dim a) (A .reaches a) (A .Member a) (L .«dim_fits» a) (L .«reach_fits» a) (L .«member_is_point» a) (view (A .dim) (c .args .job .now)) (view (A .dim) (c .loop .job)) (view (A .dim) (c .advance-2 .last .self)) (c .loop .counter) (c .in-Ok .field-0) h (c .loop .inv .1 w)
+          finish-ok (A .dim a) (A .reaches a) (A .Member a) (L .«dim_fits» a) (L .«reach_fits» a) (L .«member_is_point» a) (view (A .dim) (c .args .job .now)) (view (A .dim) (c .loop .job)) (view (A .dim) (c .advance-2 .last .self)) (c .loop .counter) (c .in-Ok .field-0) h (c .loop .inv .1 w)
           (advanced-at (A .dim) (A .reaches) (A .Member) _ _ (view (A .dim) (c .loop .job)) (view (A .dim) (c .advance-2 .last .self)) (Ok (c .in-Ok .field-0)) (c .loop .inv .0) (c .in-Ok .ensures tt .moves));
     }
 
@@ -57,6 +58,6 @@ returns-in-Err-advance g c =
     record {
       below = c .in-Err-advance .ensures tt .below ∙ c .loop .inv .0;
       ends = λ w.
-        finish-refused (A .dim a) (A .reaches a) (A .Member a) (L .«dim_fits» a) (L .«reach_fits» a) (L .«member_is_point» a) (view (A .dim) (c .args .job .now)) (view (A .dim) (c .loop .job)) (view (A .dim) (c .advance-2 .last .self)) (c .loop .counter) (c .in-Err-advance .refusal) (c .loop .inv .1 w)
+          finish-refused (A .dim a) (A .reaches a) (A .Member a) (L .«dim_fits» a) (L .«reach_fits» a) (L .«member_is_point» a) (view (A .dim) (c .args .job .now)) (view (A .dim) (c .loop .job)) (view (A .dim) (c .advance-2 .last .self)) (c .loop .counter) (c .in-Err-advance .refusal) (c .loop .inv .1 w)
           (advanced-at (A .dim) (A .reaches) (A .Member) _ _ (view (A .dim) (c .loop .job)) (view (A .dim) (c .advance-2 .last .self)) (Err (c .in-Err-advance .refusal)) (c .loop .inv .0) (c .in-Err-advance .ensures tt .moves));
     }

@@ -7,4 +7,4 @@ abbrev pub Inv-loop : given.InvT-loop
 Inv-loop g l =
     (l .job .below ≡ l .entry .job .below) ×
     (Sound-job (g .A·Augmenter .dim) (g .A·Augmenter .reaches) (g .A·Augmenter .Member) (l .entry .job) →
-      Going (g .A·Augmenter .dim (l .entry .job .below)) (g .A·Augmenter .reaches (l .entry .job .below)) (g .A·Augmenter .Member (l .entry .job .below)) (view (g .A·Augmenter .dim) (l .entry .job)) (view (g .A·Augmenter .dim) (l .job)) (l .counter))
+    Going (g .A·Augmenter .dim (l .entry .job .below)) (g .A·Augmenter .reaches (l .entry .job .below)) (g .A·Augmenter .Member (l .entry .job .below)) (view (g .A·Augmenter .dim) (l .entry .job)) (view (g .A·Augmenter .dim) (l .job)) (l .counter))
