@@ -19,6 +19,7 @@ use rows::prices::ones;
 use rows::prices::planes;
 use rows::prices::price;
 use rows::refusals::Refusal;
+use runs::finishing::finish;
 use std::alloc::AllocError;
 use std::alloc::Global;
 use std::io;
@@ -40,7 +41,11 @@ fn main(rt: LibcRuntime) -> io::Result<()> {
         Ok(listed) => listed,
         Err(refusal) => return show_refusal(&rt, refusal),
     };
-    plan(&rt, listed, &prices)
+    let mut job = Job::new(listed, 1);
+    plan(&rt, &mut job, &prices)?;
+    show_plan(&rt, &mut job)?;
+    plan_again(&rt, &mut job, &prices)?;
+    show_plan(&rt, &mut job)
 }
 
 fn charged(charge: Charge) -> i64 {
@@ -97,8 +102,7 @@ fn show_layouts(rt: &LibcRuntime, prices: &[i64]) -> io::Result<()> {
 }
 
 /// Plans from the start to the finish, and shows each advance.
-fn plan(rt: &LibcRuntime, listed: Listed, prices: &[i64]) -> io::Result<()> {
-    let mut job = Job::new(listed, 1);
+fn plan<A: Augmenter>(rt: &LibcRuntime, job: &mut Job<A>, prices: &[i64]) -> io::Result<()> {
     if let Err(refusal) = job.begin(&START, prices) {
         return show_refusal(rt, refusal);
     }
@@ -120,9 +124,55 @@ fn plan(rt: &LibcRuntime, listed: Listed, prices: &[i64]) -> io::Result<()> {
         if job.state() == State::Finished {
             break;
         }
-        show_advance(rt, &mut job)?;
+        show_advance(rt, job)?;
     }
-    show_result(rt, &job, price(prices, &START), bound)
+    show_result(rt, job, price(prices, &START), bound)
+}
+
+/// Takes over the prices of a new contract, in which vault line B costs three times as much, and plans on from the chosen layout.
+fn plan_again<A: Augmenter>(
+    rt: &LibcRuntime,
+    job: &mut Job<A>,
+    prices: &[i64; 8],
+) -> io::Result<()> {
+    let mut dearer = *prices;
+    dearer[1] = dearer[1].saturating_mul(3);
+    if let Err(refusal) = job.reprice(&dearer) {
+        return show_refusal(rt, refusal);
+    }
+    let before = price(job.prices(), job.point());
+    let bound = job.questions_left();
+    println!(
+        rt,
+        "\nA new contract: {} now costs {}.",
+        PARTS[1].name, dearer[1]
+    )?;
+    println!(
+        rt,
+        "The chosen layout then costs {before}. Quoted beforehand: at most {bound} questions."
+    )?;
+    match finish(job) {
+        Ok(()) => show_result(rt, job, before, bound),
+        Err(refusal) => show_refusal(rt, refusal),
+    }
+}
+
+/// Writes the plan of a finished job and shows its bytes.
+fn show_plan<A: Augmenter>(rt: &LibcRuntime, job: &mut Job<A>) -> io::Result<()> {
+    let mut plan = [0; plans::LENGTH];
+    match job.write_plan(&mut plan) {
+        Ok(()) => println!(rt, "Plan: {}", hex(rt.alloc(), &plan)?),
+        Err(refusal) => show_refusal(rt, refusal),
+    }
+}
+
+/// Bytes as text, two hexadecimal digits for each.
+fn hex(heap: Global, bytes: &[u8]) -> Result<String, AllocError> {
+    let mut text = String::new(heap);
+    for byte in bytes {
+        text.push_str(format!(heap, "{byte:02X}")?.as_str())?;
+    }
+    Ok(text)
 }
 
 /// One advance, with the plane it asked at and how things stand after it.
@@ -166,12 +216,12 @@ fn show_result<A: Augmenter>(
     )?;
     println!(
         rt,
-        "Saved against the start: {}.",
+        "Saved against the layout before: {}.",
         before.saturating_sub(after)
     )?;
     println!(
         rt,
-        "Questions asked: {} of at most {bound}. Improvements: {}.",
+        "Asked in all: {} questions, {} improvements; quoted for this row: at most {bound} questions.",
         totals.asked, totals.improved
     )
 }

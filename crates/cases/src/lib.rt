@@ -6,6 +6,8 @@ mod jobs;
 mod listed_sets;
 #[cfg(test)]
 mod price_rows;
+#[cfg(test)]
+mod tickets;
 
 #[cfg(test)]
 use rows::refusals::Refusal;
