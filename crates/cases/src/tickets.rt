@@ -32,59 +32,15 @@ fn plan_of_the_pair() -> Result<(), Fail> {
     let mut job = finished()?;
     let mut plan = [7u8; 48];
     job.write_plan(&mut plan)?;
-    check_eq(
-        plan,
-        [
-            0x4B,
-            0x4C,
-            0x4E,
-            0x02,
-            0x4A,
-            0,
-            0,
-            0,
-            1,
-            0x58,
-            2,
-            0,
-            0,
-            0,
-            0,
-            0,
-            0,
-            0,
-            0,
-            0,
-            0,
-            0,
-            0,
-            0,
-            0,
-            0,
-            0x4D,
-            0xFF,
-            0xFF,
-            0xFF,
-            0xFF,
-            0xFF,
-            0xFF,
-            0xFF,
-            0xFD,
-            0x51,
-            0,
-            0,
-            0,
-            4,
-            0x49,
-            0,
-            0,
-            0,
-            1,
-            0x5A,
-            7,
-            7,
-        ],
-    )
+    check_eq(&plan[0..4], &[0x4B, 0x4C, 0x4E, 2])?;
+    check_eq(&plan[4..9], &[0x4A, 0, 0, 0, 1])?;
+    check_eq(&plan[9..12], &[0x58, 2, 0])?;
+    check_eq(&plan[12..26], &[0; 14])?;
+    check_eq(&plan[26..30], &[0x4D, 0xFF, 0xFF, 0xFF])?;
+    check_eq(&plan[30..35], &[0xFF, 0xFF, 0xFF, 0xFF, 0xFD])?;
+    check_eq(&plan[35..40], &[0x51, 0, 0, 0, 4])?;
+    check_eq(&plan[40..45], &[0x49, 0, 0, 0, 1])?;
+    check_eq(&plan[45..48], &[0x5A, 7, 7])
 }
 
 #[test]
@@ -143,10 +99,9 @@ fn shown(outcome: &Outcome) -> (char, u8) {
     }
 }
 
-/// Stale, foreign and invented tickets among the calls.
-#[test]
-fn lists_of_calls() -> Result<(), Fail> {
-    let calls = [
+/// Stale, foreign and invented tickets are among the calls.
+fn calls() -> [Call<'static>; 14] {
+    [
         Call::Advance,
         Call::Begin {
             start: &[1, 0],
@@ -180,28 +135,33 @@ fn lists_of_calls() -> Result<(), Fail> {
         },
         Call::Reprice { prices: &[0, 0] },
         Call::Issue,
-    ];
+    ]
+}
+
+#[test]
+fn lists_of_calls() -> Result<(), Fail> {
     let mut outcomes = [Outcome::Withdrawn; 16];
-    let (job, count) = try_calls(pair()?, 7, &calls, &mut outcomes);
+    let (job, count) = try_calls(pair()?, 7, &calls(), &mut outcomes);
     check_eq(count, 14)?;
-    let expected = [
-        ('r', 12),
-        ('a', 0),
-        ('r', 14),
-        ('q', 0),
-        ('q', 0),
-        ('d', 0),
-        ('t', 0),
-        ('r', 16),
-        ('r', 17),
-        ('x', 0),
-        ('w', 0),
-        ('r', 16),
-        ('a', 0),
-        ('t', 0),
+    let letters = [
+        'r',
+        'a',
+        'r',
+        'q',
+        'q',
+        'd',
+        't',
+        'r',
+        'r',
+        'x',
+        'w',
+        'r',
+        'a',
+        't',
     ];
+    let numbers = [12, 0, 14, 0, 0, 0, 0, 16, 17, 0, 0, 16, 0, 0];
     for i in 0..14 {
-        check_eq(shown(&outcomes[i]), expected[i])?;
+        check_eq(shown(&outcomes[i]), (letters[i], numbers[i]))?;
     }
     check_eq((job.totals().rows, job.totals().asked), (2, 2))
 }

@@ -1,10 +1,10 @@
 ghost use mathlib.Core.Path.{_≡_};
 ghost use Prim.Native.Nat.{ℕ, _^_, _<_, _≤_};
 ghost use lib.ListN.{length, take, replicate};
-ghost use Rattle.rows.specs.Prices.{weight};
+ghost use Rattle.rows.specs.Prices.{row-at, weight};
 ghost use Rattle.job.specs.declared.parts.State.the-variants.{NotBegun, Open};
 ghost use Rattle.job.specs.Views.{blank, blank-ledger, opened, counted, placed, priced, accepted};
-ghost use Rattle.job.specs.Calls.{Opens};
+ghost use Rattle.job.specs.Calls.{Opens, Put};
 ghost use Rattle.job.specs.Jobs.{view, Sound-job, Began-by, Begin-keeps-by, Advanced-by, Advance-keeps-by, Repriced-by};
 use crate::job::Job;
 use crate::parts::Ledger;
@@ -13,15 +13,37 @@ use crate::parts::State;
 use crate::parts::Step;
 use crate::parts::Ticketing;
 use crate::parts::Totals;
-use crate::question::put;
 use augmenter::Augmenter;
+use augmenter::answers::Answer;
 use augmenter::shared_checks;
 use rows::points::Padded;
 use rows::points::padded;
 use rows::prices::planes;
+use rows::prices::row_at_plane;
 use rows::prices::weight;
 use rows::refusals::Fault;
 use rows::refusals::Refusal;
+
+/// One question, put with the row at a plane; what was found comes at the start of an array.
+fn put<A: Augmenter>(
+    below: &A,
+    prices: &Padded<i64>,
+    point: &Padded<u8>,
+    plane: u32,
+) -> Result<Option<Padded<u8>>, Refusal>
+    ensures { λ r. ⌜ Put (dim (now (below .entry))) (reaches (now (below .entry))) (Member (now (below .entry))) (row-at plane (take (dim (now (below .entry))) (now (prices .entry)))) (take (dim (now (below .entry))) (now (point .entry))) r ⌝ }
+{
+    let n = below.dimension();
+    let row = row_at_plane(prices, plane);
+    let mut next = [0u8; 128];
+    match below.better(&row[0..n], &point[0..n], &mut next[0..n]) {
+        Ok(answer) => match answer {
+            Answer::Found => Ok(Some(next)),
+            Answer::Nothing => Ok(None),
+        },
+        Err(refusal) => Err(refusal),
+    }
+}
 
 /// An array of zeros, to keep a row in.
 fn zeros<T: Copy>(zero: T) -> Padded<T>

@@ -3,7 +3,6 @@
 pub mod calls;
 pub mod job;
 pub mod parts;
-mod question;
 pub mod reads;
 pub mod tickets;
 pub mod tries;

@@ -45,7 +45,7 @@ pub struct Ledger {
 }
 
 /// What became of the ticket for the present row.
-#[derive(Clone, Copy, PartialEq, Eq, Debug)]
+#[derive(Clone, Copy)]
 pub enum Ticketing {
     /// no ticket is out, and the row's plan is not written
     Unissued,

@@ -1,7 +1,7 @@
 use borrow.Author.Needs.{needs}
 use Rattle.std.proofs.shelf.Lists.{take-map}
 use Rattle.job.proofs.Questions.{put-found, put-nothing, put-refused}
-use Rattle.job.proofs.question.put.Needs as need
+use Rattle.job.proofs.calls.put.Needs as need
 
 pub returns-in-Found : need.returns-in-Found
 returns-in-Found g c =
