@@ -1,5 +1,5 @@
 -- Soundness: what holds of every job reached from its making by calls, and what it gives: members, nearness, an end.
--- A job just made is sound and every call keeps it so; that is said by the calls' own contracts.
+-- The contracts of the making, of begin and of advance say that they keep it; that all six calls do is said over lists of calls, in the crate above.
 use mathlib.Core.Path.{_≡_}
 use mathlib.Core.List.{List}
 use Prim.Native.Nat.{ℕ, suc, _+_, _*_, _≤_, _<_}

@@ -143,7 +143,7 @@ held-closed : (ps : List ℤ) (t : Tally) (k j : ℕ) → j ≤ bits k ps → He
 held-closed ps t zero j b s = let e = ones-below-suc 0 ps in (omega arith, s .2, omega arith)
 held-closed ps t (suc k) j b s = let e = ones-below-suc (suc k) ps in (omega arith, omega arith, s .2, omega arith)
 
-not-yet : (ps : List ℤ) (t : Tally) (s : State) → s ≡ NotBegun → Held ps t s → t .rows ≡ 0
+pub not-yet : (ps : List ℤ) (t : Tally) (s : State) → s ≡ NotBegun → Held ps t s → t .rows ≡ 0
 not-yet ps t NotBegun e p = p .1
 not-yet ps t (Open k j) e p = let z : _≡_ {A = ℕ} 0 1 = cc in omega arith
 not-yet ps t Finished e p = let z : _≡_ {A = ℕ} 0 1 = cc in omega arith

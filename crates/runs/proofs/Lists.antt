@@ -116,6 +116,7 @@ module _ (letter n R m : ℕ) (M : List ℕ → Type 0) (small : n ≤ 128) (low
       record {
         long = g .long;
         runs = g .runs;
+        sound = w;
         promise = record {
           begun = begun-at (v .prices) (tally h) (v .state) (k .held);
           not-begun = λ b. rows-at (v .prices) (tally h) (v .state) (k .held) b .1;

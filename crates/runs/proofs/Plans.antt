@@ -35,7 +35,7 @@ use Rattle.job.specs.Tries.{Tried-call, Tried-write, row-outcome, step-outcome,
 use Rattle.job.proofs.Sounds.{advance-keeps, out-finished, member, cheapest}
 use Rattle.runs.specs.History.{Turn, improvements, closings, acceptances, present, writings}
 use Rattle.runs.specs.Promise.{Plan-after, Turn-after}
-use Rattle.runs.proofs.Counts.{Tally, tally, Held, Kept}
+use Rattle.runs.proofs.Counts.{Tally, tally, Held, Kept, not-yet}
 
 -- outcomes that are no plan
 row-no-plan : (r : Result (Unit {0}) Refusal) (u : List ℕ) → row-outcome r ≡ Written u → ⊥
@@ -58,11 +58,6 @@ finished-row ps t Finished e p = p .1
 
 begun-finished : (s : State) → s ≡ Finished → IsBegun s
 begun-finished s e = subst IsBegun (sym e) tt
-
-no-rows : (ps : List ℤ) (t : Tally) (s : State) → s ≡ NotBegun → Held ps t s → t .rows ≡ 0
-no-rows ps t NotBegun e p = p .1
-no-rows ps t (Open k j) e p = let z : _≡_ {A = ℕ} 0 1 = cc in absurd (omega arith)
-no-rows ps t Finished e p = let z : _≡_ {A = ℕ} 0 1 = cc in absurd (omega arith)
 
 same-plan : (k d m m′ : ℕ) (x : List ℕ) (p p′ : ℤ) (a a′ i i′ : ℕ) → m ≡ m′ → p ≡ p′ → a ≡ a′ → i ≡ i′ →
     _≡_ {A = Plan}
@@ -89,9 +84,6 @@ module _ (letter n R m : ℕ) (M : List ℕ → Type 0) (small : n ≤ 128) (low
       }
   wrote-plan a b h i j room (Err x) u g w k e = let z : _≡_ {A = ℕ} 0 1 = cc in absurd (omega arith)
 
-  not-advance : {P : Type 0} (c : Call) → ((s : c ≡ Advance) → ⊥) → c ≡ Advance → P
-  not-advance c f e = absurd (f e)
-
   -- the turn of a call that was tried
   pub turn-after : (a b : View) (h : List Turn) (c : Call) (o : Outcome) → Sound n R M a → Kept m a (tally h) → Tried-call letter n R M a c o b →
       Turn-after letter n m M h (c, o)
@@ -101,7 +93,7 @@ module _ (letter n R m : ℕ) (M : List ℕ → Type 0) (small : n ≤ 128) (low
   }
   turn-after a b h Advance o w k g = record {
     plan = λ u e. absurd (step-no-plan (g .0) u (sym (g .1 .0) ∙ e));
-    answered = λ e x y. no-rows (a .prices) (tally h) (a .state) (refused-first (g .0) e (sym (g .1 .0) ∙ y) (g .1 .1)) (k .held);
+    answered = λ e x y. not-yet (a .prices) (tally h) (a .state) (refused-first (g .0) e (sym (g .1 .0) ∙ y) (g .1 .1)) (k .held);
   }
     where
       refused-first : (r : Result Step Refusal) (e : Refusal) → step-outcome r ≡ Refused e → Advanced n R M a r b → a .state ≡ NotBegun

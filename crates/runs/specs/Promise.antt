@@ -18,7 +18,7 @@ use Rattle.job.specs.declared.tries.Outcome.the-variants.{Written, Withdrawn, R
 use Rattle.rows.specs.declared.refusals.Refusal.{Refusal}
 use Rattle.job.specs.Tries.{Tried-call}
 use Rattle.job.specs.Views.{View, IsBegun, blank, margin-at}
-use Rattle.job.specs.Soundness.{Near}
+use Rattle.job.specs.Soundness.{Sound, Near}
 use Rattle.runs.specs.History.{Turn, turns, improvements, closings, acceptances, ones-of-rows, present, advances, writings}
 
 -- u is the plan of a member that no member undercuts at the present row, the first plan of that row, with the totals counted over h
@@ -72,4 +72,5 @@ Runs letter n R M v (c ∷ cs) (o ∷ os) w = (u : View) × (Tried-call letter n
 pub record Tried (letter n R m : ℕ) (M : List ℕ → Type 0) (cs : List Call) (os : List Outcome) (v : View) : Type 0 where
   pub long : length os ≡ length cs
   pub runs : Runs letter n R M (blank m n) cs os v
+  pub sound : Sound n R M v
   pub promise : Promised letter n m M v (turns cs os)
