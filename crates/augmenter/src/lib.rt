@@ -1,4 +1,5 @@
 //! The augmenter: asked for a member cheaper than a point, it writes one or says that there is none.
+#![tactic(auto)]
 
 ghost use Rattle.std.specs.Prelude.{◌≡◌, ℕ, ◌^◌, ◌<◌, ◌≤◌, List, Decides};
 ghost use Rattle.rows.specs.Points.{Point};

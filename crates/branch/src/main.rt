@@ -1,4 +1,5 @@
 //! One branch planned from beginning to end, printed for a person to read.
+#![tactic(auto)]
 
 mod layouts;
 

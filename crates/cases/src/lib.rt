@@ -1,4 +1,5 @@
 //! Worked cases that need several crates, run as tests.
+#![tactic(auto)]
 
 #[cfg(test)]
 mod jobs;

@@ -1,4 +1,5 @@
 //! The job: a point improved plane by plane under a price row, until no member is cheaper.
+#![tactic(auto)]
 
 pub mod calls;
 pub mod job;

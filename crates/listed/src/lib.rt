@@ -1,4 +1,5 @@
 //! Listed sets, kind letter L: the members are the listed packed points.
+#![tactic(auto)]
 
 ghost use Rattle.std.specs.Prelude.{◌≡◌, ℕ, ◌^◌, ◌<◌, ◌≤◌, [], length, take, ◌≤ℤ◌, ◌<ℤ◌, Decides, MatchOption, MatchResult, slice_index_or};
 ghost use Rattle.rows.specs.Packed.{bit_at, unpacked};

@@ -1,4 +1,5 @@
 //! Piles of three layers in each order over one listed set: planned, and compared with a listed set of the translated rows.
+#![tactic(auto)]
 
 mod orders;
 mod through;

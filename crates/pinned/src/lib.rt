@@ -1,6 +1,7 @@
 //! Pinned sets: a layer over any set, by a row of pins.
 //!
 //! A point is a member if it is one below and agrees with every 0 and 1 of the row; 2 leaves a coordinate free.
+#![tactic(auto)]
 
 ghost use Rattle.std.specs.Prelude.{◌≡◌, ◌^◌, ◌<◌, ◌≤◌, length, take, Decides, MatchOption, MatchResult};
 ghost use Rattle.rows.specs.Prices.{weight};

@@ -1,4 +1,5 @@
 //! The planner: a script on standard input, its plan or one refusal on standard output.
+#![tactic(auto)]
 
 use planning::answering::answer;
 use std::io;

@@ -1,4 +1,5 @@
 //! From the bytes of a script to the bytes of its answer: a plan, or one refusal.
+#![tactic(auto)]
 
 pub mod answer;
 pub mod answering;

@@ -1,4 +1,5 @@
 //! Plans: what a loader is handed, and its 46 bytes.
+#![tactic(auto)]
 
 ghost use Rattle.std.specs.Prelude.{◌≡◌, ℕ, ◌+◌, ◌≤◌, [], ◌∷◌, ◌++◌, length, take, drop, MatchResult};
 ghost use Rattle.rows.specs.Bytes.{big_endian, signed_bytes};

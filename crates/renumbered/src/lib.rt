@@ -1,4 +1,5 @@
 //! Renumbered sets, a layer: the set below with its coordinates in another order.
+#![tactic(auto)]
 
 ghost use Rattle.std.specs.Prelude.{◌≡◌, ℕ, ◌<◌, ◌≤◌, length, take, Decides, MatchOption, MatchResult, ◌≢◌, slice_index};
 ghost use Rattle.rows.specs.Refusals.{Passes, RefusedBy};

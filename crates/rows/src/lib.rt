@@ -1,4 +1,5 @@
 //! The words of the subject and its leaves: points, price rows, planes, packed points, refusals.
+#![tactic(auto)]
 
 pub mod classes;
 pub mod packed;

@@ -1,4 +1,5 @@
 //! Lists of calls tried on a job, and the promise over every such list.
+#![tactic(auto)]
 
 ghost use Rattle.std.specs.Prelude.{◌≡◌, ℕ, min, length, take, drop};
 ghost use Rattle.job.specs.Views.{blank};

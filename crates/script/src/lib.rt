@@ -1,4 +1,5 @@
 //! Scripts: a run of commands checked and turned into the problem that it describes.
+#![tactic(auto)]
 
 mod draft;
 pub mod parsing;

@@ -1,5 +1,6 @@
 //! Shows runs of commands, such as a script, a plan or a refusal, with a line of text for each command.
 //! A run is read from each file that is named, `-` being standard input, or from standard input where none is named.
+#![tactic(auto)]
 
 mod lines;
 mod operands;

@@ -1,6 +1,7 @@
 //! Turned sets: a layer over any set, by a row of marks.
 //!
 //! A point is a member if, combined with the marks by exclusive or, it is a member below.
+#![tactic(auto)]
 
 ghost use Rattle.std.specs.Prelude.{◌≡◌, ◌^◌, ◌<◌, length, take, MatchResult, unsigned_abs};
 ghost use Rattle.rows.specs.Points.{Marks};

@@ -14,7 +14,7 @@ overflow-add-sum c =
 
 pub loop-j-preserved : goal.loop-j-preserved
 loop-j-preserved c =
-    from_more c.args.row.now c.args.byte c.loop-j.j c.loop-j.sum _ _ (omega arith) (omega arith) c.loop-j.invariant c.mark-at.ensures c.digit.ensures
+    from_more c.args.row.now c.args.byte c.loop-j.j c.loop-j.sum _ _ (omega arith) (omega arith) c.loop-j.invariant c.mark_at.ensures c.digit.ensures
 
 pub returns : goal.returns
 returns c =

@@ -5,8 +5,8 @@ use Rattle.rows.proofs.packed.pack.Goals as goal
 
 pub loop-b-preserved : goal.loop-b-preserved
 loop-b-preserved c = (
-  length-set c.loop-b.bytes c.loop-b.b c.byte-of.result ∙ c.loop-b.invariant.0,
-  filled_more (byte_of c.args.row.now) c.loop-b.bytes c.loop-b.b c.byte-of.result (omega (arith, c.loop-b.invariant.0)) c.byte-of.ensures c.loop-b.invariant.1,
+  length-set c.loop-b.bytes c.loop-b.b c.byte_of.result ∙ c.loop-b.invariant.0,
+  filled_more (byte_of c.args.row.now) c.loop-b.bytes c.loop-b.b c.byte_of.result (omega (arith, c.loop-b.invariant.0)) c.byte_of.ensures c.loop-b.invariant.1,
 )
 
 pub returns : goal.returns

@@ -6,7 +6,7 @@ use Rattle.rows.proofs.packed.unpack.Goals as goal
 
 pub loop-i-preserved : goal.loop-i-preserved
 loop-i-preserved c =
-    filled_more (bit_at c.args.bytes.now) c.loop-i.row c.loop-i.i c.bit-at.result (omega arith) c.bit-at.ensures c.loop-i.invariant
+    filled_more (bit_at c.args.bytes.now) c.loop-i.row c.loop-i.i c.bit_at.result (omega arith) c.bit_at.ensures c.loop-i.invariant
 
 pub returns : goal.returns
 returns c =

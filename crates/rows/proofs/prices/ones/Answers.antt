@@ -8,7 +8,7 @@ pub overflow-add-count : goal.overflow-add-count
 overflow-add-count c = search (rules, ones-le 64 c.unsigned-abs.result)
 
 pub loop-p-preserved : goal.loop-p-preserved
-loop-p-preserved c = (grind (arith, to_z-of_z, sum_by_more), search (rules, ones-le 64 c.unsigned-abs.result))
+loop-p-preserved c = (grind (arith, to_z-of_z, sum_by_more), search (rules, ones-le 64 c.unsigned_abs.result))
 
 pub returns : goal.returns
 returns c = grind (arith, take_all)
