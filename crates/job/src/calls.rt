@@ -20,7 +20,7 @@ fn put<A: Augmenter>(
     point: &Padded<u8>,
     plane: u32,
 ) -> Result<Option<Padded<u8>>, Refusal>
-    ensures { Put (dim below.now) (reaches below.now) (Member below.now) (row_at plane (take (dim below.now) prices.now)) (take (dim below.now) point.now) result }
+    ensures { Put (A.dim below.now) (A.reaches below.now) (A.Member below.now) (row_at plane (take (A.dim below.now) prices.now)) (take (A.dim below.now) point.now) result }
 {
     let n = below.dimension();
     let row = row_at_plane(prices, plane);
@@ -82,9 +82,9 @@ fn count(line: &mut Line, found: bool)
 impl<A: Augmenter> Job<A> {
     /// A job over an augmenter, with a number of the maker's; it has not begun.
     pub fn new(below: A, number: u32) -> Job<A>
-        ensures fresh { view dim result ≡ blank number (dim below) }
+        ensures fresh { view A.dim result ≡ blank number (A.dim below) }
         ensures below { result.below ≡ below }
-        ensures sound { SoundJob dim reaches Member result }
+        ensures sound { SoundJob A.dim A.reaches A.Member result }
     {
         Job {
             below,
@@ -105,28 +105,28 @@ impl<A: Augmenter> Job<A> {
 
     /// Makes a row of marks the job's point.
     fn place(&mut self, point: &[u8])
-        requires { length point.now ≡ dim self.old.below }
+        requires { length point.now ≡ A.dim self.old.below }
         ensures below { self.new.below ≡ self.old.below }
-        ensures after { view dim self.new ≡ placed (view dim self.old) point.now }
+        ensures after { view A.dim self.new ≡ placed (view A.dim self.old) point.now }
     {
         self.point = padded(point, 0);
     }
 
     /// Keeps a price row.
     fn keep(&mut self, prices: &[i64])
-        requires { length prices.now ≡ dim self.old.below }
+        requires { length prices.now ≡ A.dim self.old.below }
         ensures below { self.new.below ≡ self.old.below }
-        ensures after { view dim self.new ≡ priced (view dim self.old) prices.now }
+        ensures after { view A.dim self.new ≡ priced (view A.dim self.old) prices.now }
     {
         self.prices = padded(prices, 0);
     }
 
     /// Makes the prices the present row: the top plane opens, or the job is finished where the row has none.
     fn accept(&mut self, prices: &[i64])
-        requires long { length prices.now ≡ dim self.old.below }
+        requires long { length prices.now ≡ A.dim self.old.below }
         requires light { weight prices.now < 2 ^ 40 }
         ensures below { self.new.below ≡ self.old.below }
-        ensures after { view dim self.new ≡ accepted (view dim self.old) (view dim self.old).point prices.now }
+        ensures after { view A.dim self.new ≡ accepted (view A.dim self.old) (view A.dim self.old).point prices.now }
     {
         self.keep(prices);
         self.totals.rows = self.totals.rows.saturating_add(1);
@@ -138,8 +138,8 @@ impl<A: Augmenter> Job<A> {
     /// Begins with a start, which must be a member, and a price row.
     pub fn begin(&mut self, start: &[u8], prices: &[i64]) -> Result<(), Refusal>
         ensures below { self.new.below ≡ self.old.below }
-        ensures moves { BeganBy dim reaches Member self.old start.now prices.now result self.new }
-        ensures keeps { BeginKeepsBy dim reaches Member self.old prices.now result self.new }
+        ensures moves { BeganBy A.dim A.reaches A.Member self.old start.now prices.now result self.new }
+        ensures keeps { BeginKeepsBy A.dim A.reaches A.Member self.old prices.now result self.new }
     {
         let State::NotBegun = self.state else {
             return Err(Fault::Begun.at(0));
@@ -151,7 +151,7 @@ impl<A: Augmenter> Job<A> {
     fn start(&mut self, start: &[u8], prices: &[i64]) -> Result<(), Refusal>
         requires { self.old.state ≡ NotBegun }
         ensures below { self.new.below ≡ self.old.below }
-        ensures moves { BeganBy dim reaches Member self.old start.now prices.now result self.new }
+        ensures moves { BeganBy A.dim A.reaches A.Member self.old start.now prices.now result self.new }
     {
         let n = self.below.dimension();
         shared_checks(n, self.below.reach(), prices, start, n)?;
@@ -166,8 +166,8 @@ impl<A: Augmenter> Job<A> {
     /// Puts one question with the row at the open plane: the point is improved, or the plane is closed.
     pub fn advance(&mut self) -> Result<Step, Refusal>
         ensures below { self.new.below ≡ self.old.below }
-        ensures moves { AdvancedBy dim reaches Member self.old result self.new }
-        ensures keeps { AdvanceKeepsBy dim reaches Member self.old result self.new }
+        ensures moves { AdvancedBy A.dim A.reaches A.Member self.old result self.new }
+        ensures keeps { AdvanceKeepsBy A.dim A.reaches A.Member self.old result self.new }
     {
         match self.state {
             State::NotBegun => Err(Fault::NotBegun.at(0)),
@@ -179,7 +179,7 @@ impl<A: Augmenter> Job<A> {
     /// Takes a new price row, with the point kept; a ticket still out is out no longer.
     pub fn reprice(&mut self, prices: &[i64]) -> Result<(), Refusal>
         ensures below { self.new.below ≡ self.old.below }
-        ensures moves { RepricedBy dim reaches self.old prices.now result self.new }
+        ensures moves { RepricedBy A.dim A.reaches self.old prices.now result self.new }
     {
         if let State::NotBegun = self.state {
             return Err(Fault::NotBegun.at(0));
@@ -201,7 +201,7 @@ impl<A: Augmenter> Job<A> {
     fn ask(&mut self, at: u32) -> Result<Step, Refusal>
         requires { Opens self.old.state at }
         ensures below { self.new.below ≡ self.old.below }
-        ensures moves { AdvancedBy dim reaches Member self.old result self.new }
+        ensures moves { AdvancedBy A.dim A.reaches A.Member self.old result self.new }
     {
         let answer = put(&self.below, &self.prices, &self.point, at)?;
         self.totals.asked = self.totals.asked.saturating_add(1);

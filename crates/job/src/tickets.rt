@@ -14,7 +14,7 @@ impl<A: Augmenter> Job<A> {
     /// Gives the ticket for the present row of a finished job.
     pub fn issue(&mut self) -> Result<Ticket, Refusal>
         ensures below { self.new.below ≡ self.old.below }
-        ensures moves { Issued (view dim self.old) result (view dim self.new) }
+        ensures moves { Issued (view A.dim self.old) result (view A.dim self.new) }
     {
         match self.state {
             State::NotBegun => return Err(Fault::NotBegun.at(0)),
@@ -34,7 +34,7 @@ impl<A: Augmenter> Job<A> {
 
     /// What the job's plan says.
     fn plan(&self) -> Plan
-        ensures { result ≡ plan_of kind (dim self.now.below) (view dim self.now) }
+        ensures { result ≡ plan_of A.kind (A.dim self.now.below) (view A.dim self.now) }
     {
         Plan {
             kind: A::letter(),
@@ -49,7 +49,7 @@ impl<A: Augmenter> Job<A> {
 
     /// Whether a ticket is the one that the job has out.
     fn has_out(&self, number: u32, row: u32) -> bool
-        ensures { Decides result (Valid (view dim self.now) number row) }
+        ensures { Decides result (Valid (view A.dim self.now) number row) }
     {
         match self.ticketing {
             Ticketing::Out => number == self.number && row == self.totals.rows,
@@ -60,7 +60,7 @@ impl<A: Augmenter> Job<A> {
     /// Writes the plan to a buffer's start, for the ticket; the rest of the buffer keeps its bytes.
     pub fn write(&mut self, ticket: Ticket, buffer: &mut [u8]) -> Result<(), (Ticket, Refusal)>
         ensures below { self.new.below ≡ self.old.below }
-        ensures moves { Wrote kind (dim self.old.below) (view dim self.old) ticket.number ticket.row buffer.old result (view dim self.new) buffer.new }
+        ensures moves { Wrote A.kind (A.dim self.old.below) (view A.dim self.old) ticket.number ticket.row buffer.old result (view A.dim self.new) buffer.new }
     {
         if !self.has_out(ticket.number, ticket.row) {
             return Err((ticket, Fault::WrongTicket.at(0)));
@@ -78,7 +78,7 @@ impl<A: Augmenter> Job<A> {
     /// Gives a ticket back unwritten.
     pub fn withdraw(&mut self, ticket: Ticket)
         ensures below { self.new.below ≡ self.old.below }
-        ensures moves { Withdrew (view dim self.old) ticket.number ticket.row (view dim self.new) }
+        ensures moves { Withdrew (view A.dim self.old) ticket.number ticket.row (view A.dim self.new) }
     {
         let Ticket { number, row } = ticket;
         if self.has_out(number, row) {
@@ -89,7 +89,7 @@ impl<A: Augmenter> Job<A> {
     /// Issues the ticket for the present row and writes its plan with it; where the buffer is too short, the ticket is withdrawn.
     pub fn write_plan(&mut self, buffer: &mut [u8]) -> Result<(), Refusal>
         ensures below { self.new.below ≡ self.old.below }
-        ensures moves { WrotePlan kind (dim self.old.below) (view dim self.old) buffer.old result (view dim self.new) buffer.new }
+        ensures moves { WrotePlan A.kind (A.dim self.old.below) (view A.dim self.old) buffer.old result (view A.dim self.new) buffer.new }
     {
         match self.issue() {
             Ok(ticket) => match self.write(ticket, buffer) {

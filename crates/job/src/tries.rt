@@ -76,7 +76,7 @@ impl<A: Augmenter> Job<A> {
     /// Writes with the ticket of a pair into a buffer of `room` bytes, of which a plan takes 46.
     fn try_write(&mut self, number: u32, row: u32, room: usize) -> Result<[u8; 46], Refusal>
         ensures below { self.new.below ≡ self.old.below }
-        ensures moves { TriedWrite kind (dim self.old.below) (view dim self.old) number row room result (view dim self.new) }
+        ensures moves { TriedWrite A.kind (A.dim self.old.below) (view A.dim self.old) number row room result (view A.dim self.new) }
     {
         let mut bytes = [0u8; 46];
         match self.write(Ticket { number, row }, &mut bytes[0..room.min(46)]) {
@@ -91,7 +91,7 @@ impl<A: Augmenter> Job<A> {
     /// Tries one call.
     pub fn try_call(&mut self, call: &Call<'_>) -> Outcome
         ensures below { self.new.below ≡ self.old.below }
-        ensures moves { TriedCall kind (dim self.old.below) (reaches self.old.below) (Member self.old.below) (view dim self.old) call.now result (view dim self.new) }
+        ensures moves { TriedCall A.kind (A.dim self.old.below) (A.reaches self.old.below) (A.Member self.old.below) (view A.dim self.old) call.now result (view A.dim self.new) }
     {
         match call {
             Call::Begin { start, prices } => of_row(self.begin(start, prices)),

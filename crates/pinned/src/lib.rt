@@ -74,7 +74,7 @@ fn check_pins(n: usize, reach: u64, pins: &[u8]) -> Result<(), Refusal>
 impl<A: Augmenter + Drop> Pinned<A> {
     /// The members below that agree with the pins.
     pub fn new(below: A, pins: &[u8]) -> Result<Pinned<A>, Refusal>
-        ensures { MatchResult result (λ t. Passes (making_checks (dim below) (reaches below) pins.now) × (t.below ≡ below) × (take (dim below) t.pins ≡ pins.now)) (λ e. RefusedBy (making_checks (dim below) (reaches below) pins.now) e) }
+        ensures { MatchResult result (λ t. Passes (making_checks (A.dim below) (A.reaches below) pins.now) × (t.below ≡ below) × (take (A.dim below) t.pins ≡ pins.now)) (λ e. RefusedBy (making_checks (A.dim below) (A.reaches below) pins.now) e) }
     {
         check_pins(below.dimension(), below.reach(), pins)?;
         Ok(Pinned {

@@ -67,7 +67,7 @@ fn making_checks(n: usize, numbers: &[u8]) -> Result<(), Refusal>
 impl<A: Augmenter + Drop> Renumbered<A> {
     /// The set below, with coordinate i for its coordinate `numbers[i]`.
     pub fn new(below: A, numbers: &[u8]) -> Result<Renumbered<A>, Refusal>
-        ensures { MatchResult result (λ l. Passes (making_checks (dim below) numbers.now) × (l.below ≡ below) × (l.count ≡ dim below) × (take l.count l.numbers ≡ numbers.now)) (λ e. RefusedBy (making_checks (dim below) numbers.now) e) }
+        ensures { MatchResult result (λ l. Passes (making_checks (A.dim below) numbers.now) × (l.below ≡ below) × (l.count ≡ A.dim below) × (take l.count l.numbers ≡ numbers.now)) (λ e. RefusedBy (making_checks (A.dim below) numbers.now) e) }
     {
         let n = below.dimension();
         making_checks(n, numbers)?;
@@ -82,7 +82,7 @@ impl<A: Augmenter + Drop> Renumbered<A> {
 impl<A: Augmenter> Renumbered<A> {
     /// Whether the numbers kept renumber the dimension below, as they do in every layer that was made.
     fn fits(&self) -> bool
-        ensures { Decides result (Renumbers (dim self.now.below) (take self.now.count self.now.numbers)) }
+        ensures { Decides result (Renumbers (A.dim self.now.below) (take self.now.count self.now.numbers)) }
     {
         self.count == self.below.dimension()
     }
@@ -112,9 +112,9 @@ fn moved_back<T: Copy>(numbers: &[u8], from: &[T], to: &mut [T])
 
 /// Whether the row, moved, is a member below.
 fn moved_belongs<A: Augmenter>(below: &A, numbers: &[u8], row: &[u8]) -> bool
-    requires order { Renumbers (dim below.now) numbers.now }
-    requires long { length row.now ≡ dim below.now }
-    ensures { Decides result (MemberAbove (dim below.now) (Member below.now) numbers.now row.now) }
+    requires order { Renumbers (A.dim below.now) numbers.now }
+    requires long { length row.now ≡ A.dim below.now }
+    ensures { Decides result (MemberAbove (A.dim below.now) (A.Member below.now) numbers.now row.now) }
 {
     let mut scratch = [0u8; LARGEST_DIMENSION];
     let marks = &mut scratch[0..row.len()];
@@ -153,9 +153,9 @@ fn put<A: Augmenter>(
     point: &[u8],
     out: &mut [u8],
 ) -> Result<Answer, Refusal>
-    requires order { Renumbers (dim below.now) numbers.now }
-    requires passed { Passes (shared_checks (dim below.now) (reaches below.now) prices.now point.now (length out.old)) }
-    ensures { Better (dim below.now) (reaches below.now) (MemberAbove (dim below.now) (Member below.now) numbers.now) prices.now point.now out.old out.new result }
+    requires order { Renumbers (A.dim below.now) numbers.now }
+    requires passed { Passes (shared_checks (A.dim below.now) (A.reaches below.now) prices.now point.now (length out.old)) }
+    ensures { Better (A.dim below.now) (A.reaches below.now) (MemberAbove (A.dim below.now) (A.Member below.now) numbers.now) prices.now point.now out.old out.new result }
 {
     let mut price_row = [0i64; LARGEST_DIMENSION];
     let mut mark_row = [0u8; LARGEST_DIMENSION];

@@ -1,5 +1,5 @@
 -- The laws of planes: how prices, remainders and ones at one plane come from those at the plane above.
-use Rattle.std.proofs.Common.{◌≡◌, ℕ, zero, suc, ◌+◌, ◌-◌, ◌*◌, ◌/◌, ◌%◌, ◌^◌, ◌<◌, ◌≤◌, min, max, List, [], ◌∷◌, length, get_or, drop, ℤ, pos, negsuc, ◌+ℤ◌, neg_ℤ, nat_abs, ◌≤ℤ◌, ◌<ℤ◌, fold, sum_by, sym, refl, ap, ◌∙◌, subst, ap₂, ⊎_elim, mod-lt, mod-eq_of_lt, mul_assoc, mul_comm, add-mul, add_comm, one-mul, pow-suc, lt_of_not-le, zero-mul, mul-add, div-one, add-one, arith, pow_pos, pow_mono, shr-shr}
+use Rattle.std.proofs.Common.{◌≡◌, ℕ, zero, suc, ◌+◌, ◌-◌, ◌*◌, ◌/◌, ◌%◌, ◌^◌, ◌<◌, ◌≤◌, min, max, List, [], ◌∷◌, length, get_or, drop, ℤ, pos, negsuc, ◌+ℤ◌, neg_ℤ, nat_abs, ◌≤ℤ◌, fold, sym, refl, ap, ◌∙◌, subst, ap₂, ⊎_elim, mod-lt, mod-eq_of_lt, mul_assoc, mul_comm, add-mul, add_comm, pow-suc, lt_of_not-le, zero-mul, div-one, add-one, arith, pow_pos, pow_mono, shr-shr}
 use native.Mathlib.Nat.{div-eq_of_lt, mod-one}
 use lib.Pow.{split, shr_le, mod-pow-add}
 use lib.Count.{ones as one_bits, ones_in, ones_cat, ones-le, count_leading_zeros, leading_length}
@@ -8,7 +8,7 @@ use Rattle.std.proofs.lemmas.List.{drop_more, drop_all}
 use Rattle.std.proofs.lemmas.Int.{ints}
 use Rattle.std.proofs.lemmas.List.Sums.{sum_by-cons}
 use Rattle.rows.specs.Planes.{PlaneLaws}
-use Rattle.rows.specs.Prices.{weight, ones, largest, signed, at_plane, row_at, pays, price, bit_of, bits, remainders, ones_below, planes, Digits, Under}
+use Rattle.rows.specs.Prices.{weight, ones, largest, at_plane, row_at, pays, price, bit_of, bits, remainders, ones_below, planes, Digits, Under}
 
 -- a magnitude's quotient: one plane down
 halves : (n k : ℕ) → n / 2 ^ k ≡ 2 * (n / 2 ^ suc k) + n / 2 ^ k % 2

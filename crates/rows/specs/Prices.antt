@@ -1,6 +1,6 @@
 -- Price rows: the price of a point, weight, ones, planes, and the row at a plane.
 -- A price row is a list of whole numbers; a plane is one binary digit of the magnitudes, plane 0 the lowest.
-use Rattle.std.specs.Prelude.{ℕ, zero, suc, ◌+◌, ◌-◌, ◌*◌, ◌/◌, ◌%◌, ◌^◌, ◌<◌, ◌≤◌, max, List, [], ◌∷◌, map, ℤ, pos, negsuc, ◌+ℤ◌, neg_ℤ, fold, sum_by, unsigned_abs}
+use Rattle.std.specs.Prelude.{ℕ, zero, suc, ◌-◌, ◌/◌, ◌%◌, ◌^◌, ◌<◌, ◌≤◌, max, List, [], ◌∷◌, map, ℤ, pos, negsuc, ◌+ℤ◌, neg_ℤ, fold, sum_by, unsigned_abs}
 use Rattle.std.specs.Int.Count as count
 
 -- what a coordinate adds: its price at a one, nothing at a zero

@@ -4,6 +4,7 @@ use Rattle.std.specs.Prelude.{◌≡◌, ℕ, suc, ◌+◌, ◌≤◌, List, Ok,
 use Rattle.rows.specs.declared.refusals.Fault.TheVariants.{NotBegun as NotBegunFault}
 use Rattle.rows.specs.declared.refusals.Refusal.{Refusal}
 use Rattle.augmenter.specs.Questions.{Cheapest}
+use Rattle.augmenter.specs.declared.Augmenter.{Ghosts}
 use Rattle.job.specs.declared.job.Job.{Job}
 use Rattle.job.specs.declared.parts.State.{State}
 use Rattle.job.specs.declared.parts.State.TheVariants.{NotBegun, Open, Finished}
@@ -31,5 +32,5 @@ abbrev pub Finish : ℕ → ℕ → (List ℕ → Type 0) → View → Result (U
 Finish n R M a (Ok _) b = IsBegun a.state × Finishes n R M a b
 Finish n R M a (Err e) b = (a.state ≡ NotBegun) × (e ≡ record { fault = NotBegunFault; place = 0 }) × (b ≡ a)
 
-abbrev pub FinishBy : {X : Type 0} → (X → ℕ) → (X → ℕ) → (X → List ℕ → Type 0) → Job X → Result (Unit {0}) Refusal → Job X → Type 0
+abbrev pub FinishBy : {X : Type 0} {G : Ghosts X} → (X → ℕ) → (X → ℕ) → (X → List ℕ → Type 0) → Job X G → Result (Unit {0}) Refusal → Job X G → Type 0
 FinishBy d r M a e b = SoundJob d r M a → Finish (d a.below) (r a.below) (M a.below) (view d a) e (view d b)

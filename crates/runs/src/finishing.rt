@@ -8,7 +8,7 @@ use rows::refusals::Refusal;
 /// Runs a begun job to its finish. No more questions are put than may still come; advances beyond the finish ask nothing.
 pub fn finish<A: Augmenter>(job: &mut Job<A>) -> Result<(), Refusal>
     ensures below { job.new.below ≡ job.old.below }
-    ensures ends { FinishBy dim reaches Member job.old result job.new }
+    ensures ends { FinishBy A.dim A.reaches A.Member job.old result job.new }
 {
     for _ in 0..job.questions_left() {
         if let Err(refusal) = job.advance() {

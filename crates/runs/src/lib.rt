@@ -15,11 +15,11 @@ use job::tries::{Call, Outcome};
 
 /// Tries each call on a job in turn; what came of it goes into the caller's memory, as far as that reaches.
 fn try_on<A: Augmenter>(job: &mut Job<A>, calls: &[Call<'_>], outcomes: &mut [Outcome]) -> usize
-    requires { view dim job.old ≡ blank job.old.number (dim job.old.below) }
+    requires { view A.dim job.old ≡ blank job.old.number (A.dim job.old.below) }
     ensures below { job.new.below ≡ job.old.below }
     ensures count { result ≡ min (length calls.now) (length outcomes.old) }
     ensures rest { drop result outcomes.new ≡ drop result outcomes.old }
-    ensures promise { Tried kind (dim job.old.below) (reaches job.old.below) job.old.number (Member job.old.below) (take result calls.now) (take result outcomes.new) (view dim job.new) }
+    ensures promise { Tried A.kind (A.dim job.old.below) (A.reaches job.old.below) job.old.number (A.Member job.old.below) (take result calls.now) (take result outcomes.new) (view A.dim job.new) }
 {
     let n = calls.len().min(outcomes.len());
     for i in 0..n {
@@ -39,7 +39,7 @@ pub fn try_calls<A: Augmenter>(
     ensures below { result.0.below ≡ augmenter }
     ensures count { result.1 ≡ min (length calls.now) (length outcomes.old) }
     ensures rest { drop result.1 outcomes.new ≡ drop result.1 outcomes.old }
-    ensures promise { Tried kind (dim augmenter) (reaches augmenter) number (Member augmenter) (take result.1 calls.now) (take result.1 outcomes.new) (view dim result.0) }
+    ensures promise { Tried A.kind (A.dim augmenter) (A.reaches augmenter) number (A.Member augmenter) (take result.1 calls.now) (take result.1 outcomes.new) (view A.dim result.0) }
 {
     let mut job = Job::new(augmenter, number);
     let count = try_on(&mut job, calls, outcomes);

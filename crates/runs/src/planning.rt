@@ -8,8 +8,8 @@ use rows::refusals::Refusal;
 
 /// Runs a job that has just begun to its finish and writes its plan, neither of which is refused.
 fn conclude<A: Augmenter>(job: &mut Job<A>) -> Result<[u8; 46], Refusal>
-    requires { JustBegun (dim job.old.below) (reaches job.old.below) (Member job.old.below) (view dim job.old) }
-    ensures { Concluded kind (dim job.old.below) (Member job.old.below) (view dim job.old) result }
+    requires { JustBegun (A.dim job.old.below) (A.reaches job.old.below) (A.Member job.old.below) (view A.dim job.old) }
+    ensures { Concluded A.kind (A.dim job.old.below) (A.Member job.old.below) (view A.dim job.old) result }
 {
     finish(job)?;
     let mut bytes = [0; plans::LENGTH];
@@ -24,7 +24,7 @@ pub fn plan<A: Augmenter + Drop>(
     start: &[u8],
     prices: &[i64],
 ) -> Result<[u8; 46], Refusal>
-    ensures { PlanOf kind (dim augmenter) (reaches augmenter) number (Member augmenter) start.now prices.now result }
+    ensures { PlanOf A.kind (A.dim augmenter) (A.reaches augmenter) number (A.Member augmenter) start.now prices.now result }
 {
     let mut job = Job::new(augmenter, number);
     job.begin(start, prices)?;

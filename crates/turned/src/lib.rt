@@ -40,7 +40,7 @@ fn check_marks(n: usize, marks: &[u8]) -> Result<(), Refusal>
 impl<A: Augmenter + Drop> Turned<A> {
     /// The set below, turned by the marks.
     pub fn new(below: A, marks: &[u8]) -> Result<Turned<A>, Refusal>
-        ensures { MatchResult result (λ t. Passes (making_checks (dim below) marks.now) × (t.below ≡ below) × (take (dim below) t.marks ≡ marks.now)) (λ e. RefusedBy (making_checks (dim below) marks.now) e) }
+        ensures { MatchResult result (λ t. Passes (making_checks (A.dim below) marks.now) × (t.below ≡ below) × (take (A.dim below) t.marks ≡ marks.now)) (λ e. RefusedBy (making_checks (A.dim below) marks.now) e) }
     {
         check_marks(below.dimension(), marks)?;
         Ok(Turned {

@@ -17,8 +17,8 @@ loop-i-preserved g c =
     let k : c.loop-i.i < length c.loop-i.outcomes = omega arith in (
       gone_more A.kind (A.dim a) (A.reaches a) c.args.job.now.number (A.Member a) (L.dim_fits a) (L.reach_fits a) (L.member_is_point a)
           _ _ c.args.calls.now c.loop-i.outcomes c.loop-i.i _ _ h k c.loop-i.invariant.0
-          (call_at A.kind A.dim A.reaches A.Member _ _ _ _ _ _ c.loop-i.invariant.1 c.try-call.ensures.moves),
-      c.try-call.ensures.below ∙ c.loop-i.invariant.1,
+          (call_at A.kind A.dim A.reaches A.Member _ _ _ _ _ _ c.loop-i.invariant.1 c.try_call.ensures.moves),
+      c.try_call.ensures.below ∙ c.loop-i.invariant.1,
       rest_more c.loop-i.outcomes _ c.loop-i.i _ c.loop-i.invariant.2,
     )
 

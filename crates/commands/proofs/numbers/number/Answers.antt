@@ -13,8 +13,8 @@ all bs h = let z : length bs - 8 ≡ 0 = omega arith in ap (λ (m : ℕ). drop m
 pub returns : goal.returns
 returns c =
     let bs = c.args.bytes.now in
-    let e = last-eight bs _ c.saturating-sub.ensures in
-    let v = c.short-number.ensures.value ∙ ap (number_from_digits 256) e in
-    let n : length (take (length bs - c.saturating-sub.result) (drop c.saturating-sub.result bs)) ≤ length bs = omega (arith, ap length e, length-drop (length bs - 8) bs) in
-    let m : 8 * length (take (length bs - c.saturating-sub.result) (drop c.saturating-sub.result bs)) ≤ 8 * length bs = omega arith in
-    record { value = v; short = λ h. v ∙ ap (number_from_digits 256) (all bs h); small = omega (arith, c.short-number.ensures.small, pow_mono m) }
+    let e = last-eight bs _ c.saturating_sub.ensures in
+    let v = c.short_number.ensures.value ∙ ap (number_from_digits 256) e in
+    let n : length (take (length bs - c.saturating_sub.result) (drop c.saturating_sub.result bs)) ≤ length bs = omega (arith, ap length e, length-drop (length bs - 8) bs) in
+    let m : 8 * length (take (length bs - c.saturating_sub.result) (drop c.saturating_sub.result bs)) ≤ 8 * length bs = omega arith in
+    record { value = v; short = λ h. v ∙ ap (number_from_digits 256) (all bs h); small = omega (arith, c.short_number.ensures.small, pow_mono m) }

@@ -14,20 +14,20 @@ longer n i b h k =
     let p : 2 ^ (8 * (i + 1)) ≡ 2 ^ (8 * i) * 256 = ap (λ (m : ℕ). 2 ^ m) e ∙ pow-add 2 (8 * i) 8 in
     omega arith
 
-pub overflow-mul-n : goal.overflow-mul-n
-overflow-mul-n c =
+pub overflow_mul-n : goal.overflow_mul-n
+overflow_mul-n c =
     let h = wide c.loop-i.n c.loop-i.i c.loop-i.invariant.1 (omega arith) in
     omega arith
 
-pub overflow-add-n : goal.overflow-add-n
-overflow-add-n c =
+pub overflow_add-n : goal.overflow_add-n
+overflow_add-n c =
     let h = wide c.loop-i.n c.loop-i.i c.loop-i.invariant.1 (omega arith) in
-    omega (arith, c.type-inv.bytes c.loop-i.i)
+    omega (arith, c.type_inv.bytes c.loop-i.i)
 
 pub loop-i-preserved : goal.loop-i-preserved
 loop-i-preserved c =
     let m = number_more 256 c.args.bytes.now c.loop-i.i c.loop-i-test.true in
-    (omega arith, longer c.loop-i.n c.loop-i.i _ c.loop-i.invariant.1 (omega (arith, c.type-inv.bytes c.loop-i.i)))
+    (omega arith, longer c.loop-i.n c.loop-i.i _ c.loop-i.invariant.1 (omega (arith, c.type_inv.bytes c.loop-i.i)))
 
 pub returns : goal.returns
 returns c =

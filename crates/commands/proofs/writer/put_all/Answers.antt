@@ -12,8 +12,8 @@ put-at-requires c =
     let i = c.loop-i.i in
     record { whole = whole_at ds i _ c.loop-i-test.true c.requires.whole; room = room_at ds i c.loop-i.at (length c.args.buffer.now) _ _ c.loop-i-test.true c.loop-i.invariant.0 c.requires.room c.loop-i.auto.buffer }
 
-pub overflow-add-at : goal.overflow-add-at
-overflow-add-at c =
+pub overflow_add-at : goal.overflow_add-at
+overflow_add-at c =
     let ds = c.args.commands.now in
     let i = c.loop-i.i in
     let n = length c.args.buffer.now in

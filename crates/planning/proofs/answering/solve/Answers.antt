@@ -9,7 +9,7 @@ pub returns : goal.returns
 returns c =
     let p = c.args.problem.now in
     let l : length p.prices ≡ 128 = search rules in
-    let m = c.in-ok-listed.ensures in
+    let m = c.in_ok-listed.ensures in
     let rows : mid_of 0 (p.count - 0) p.rows ≡ rows_in p = search rules in
     let prices : mid_of 0 (p.dimension - 0) p.prices ≡ prices_in p = search rules in
     let n : length (mid_of 0 (p.dimension - 0) (replicate 128 0)) ≡ p.dimension = search rules in

@@ -2,14 +2,14 @@ use Rattle.std.proofs.Common.{refl, arith}
 use Rattle.renumbered.proofs.Keeping.{row_back, kept_facts, passed_at}
 use Rattle.renumbered.proofs.Renumbered.new.Goals as goal
 
-pub invariant-of-result : goal.invariant-of-result
-invariant-of-result g c =
+pub invariant_of-result : goal.invariant_of-result
+invariant_of-result g c =
     let few = g.met.A.Augmenter.dim_fits c.args.below in
-    let passed = c.in-ok-making-checks.ensures in
+    let passed = c.in_ok-making_checks.ensures in
     kept_facts _ c.args.numbers.now _ passed.0 (row_back _ _ _ passed.0 (omega arith) c.padded.ensures) passed.1.0
 
 pub returns : goal.returns
 returns g c =
     let few = g.met.A.Augmenter.dim_fits c.args.below in
-    let passed = c.in-ok-making-checks.ensures in
+    let passed = c.in_ok-making_checks.ensures in
     (passed_at _ _ _ c.dimension-n.ensures passed, refl, c.dimension-n.ensures, row_back _ c.args.numbers.now _ passed.0 (omega arith) c.padded.ensures)

@@ -5,12 +5,12 @@ use Rattle.rows.proofs.packed.byte_of.Goals as goal
 pub loop-j-init : goal.loop-j-init
 loop-j-init c = sym (from_none c.args.row.now c.args.byte)
 
-pub overflow-mul-sum : goal.overflow-mul-sum
-overflow-mul-sum c = omega (arith, c.loop-j.invariant, from_small c.args.row.now c.args.byte c.loop-j.j c.loop-j-test.true)
+pub overflow_mul-sum : goal.overflow_mul-sum
+overflow_mul-sum c = omega (arith, c.loop-j.invariant, from_small c.args.row.now c.args.byte c.loop-j.j c.loop-j-test.true)
 
-pub overflow-add-sum : goal.overflow-add-sum
-overflow-add-sum c =
-    omega (arith, c.loop-j.invariant, from_small c.args.row.now c.args.byte c.loop-j.j c.loop-j-test.true, digit_small c.mark-at.result)
+pub overflow_add-sum : goal.overflow_add-sum
+overflow_add-sum c =
+    omega (arith, c.loop-j.invariant, from_small c.args.row.now c.args.byte c.loop-j.j c.loop-j-test.true, digit_small c.mark_at.result)
 
 pub loop-j-preserved : goal.loop-j-preserved
 loop-j-preserved c =

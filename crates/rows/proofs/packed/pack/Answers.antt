@@ -1,4 +1,4 @@
-use Rattle.std.proofs.Common.{◌≡◌, ℕ, ◌<◌, length, get_or, ap, ◌∙◌, arith, length-set}
+use Rattle.std.proofs.Common.{◌≡◌, ap, ◌∙◌, arith, length-set}
 use Rattle.rows.specs.Packed.{unpacked, byte_of, packed}
 use Rattle.rows.proofs.Packing.{filled_more, packed_is, unpacked_packed}
 use Rattle.rows.proofs.packed.pack.Goals as goal

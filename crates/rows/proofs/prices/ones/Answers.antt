@@ -4,8 +4,8 @@ use Rattle.std.proofs.lemmas.List.Sums.{sum_by_more}
 use Rattle.std.proofs.lemmas.Int.{to_z-of_z}
 use Rattle.rows.proofs.prices.ones.Goals as goal
 
-pub overflow-add-count : goal.overflow-add-count
-overflow-add-count c = search (rules, ones-le 64 c.unsigned-abs.result)
+pub overflow_add-count : goal.overflow_add-count
+overflow_add-count c = search (rules, ones-le 64 c.unsigned_abs.result)
 
 pub loop-p-preserved : goal.loop-p-preserved
 loop-p-preserved c = (grind (arith, to_z-of_z, sum_by_more), search (rules, ones-le 64 c.unsigned_abs.result))

@@ -1,11 +1,11 @@
-use Rattle.std.proofs.Common.{◌≡◌, ℕ, ◌%◌, ◌^◌, get_or, ℤ, pos, nat_abs, ap, ◌∙◌, arith, take_all, w64, SFits, rules}
+use Rattle.std.proofs.Common.{ℕ, ◌%◌, ◌^◌, get_or, ℤ, pos, nat_abs, ap, ◌∙◌, arith, take_all, w64, SFits, rules}
 use lib.Count.{ones, ones-le}
 use Rattle.std.proofs.lemmas.List.Sums.{sum_by_more}
 use Rattle.std.proofs.lemmas.Int.{to_z-of_z}
 use Rattle.rows.proofs.prices.ones_below.Goals as goal
 
-pub overflow-add-low : goal.overflow-add-low
-overflow-add-low c = search (rules, ones-le 64 c.remainder.result)
+pub overflow_add-low : goal.overflow_add-low
+overflow_add-low c = search (rules, ones-le 64 c.remainder.result)
 
 pub loop-p-preserved : goal.loop-p-preserved
 loop-p-preserved c =

@@ -1,4 +1,4 @@
-use Rattle.std.proofs.Common.{◌≡◌, ◌*◌, ◌^◌, ◌≤◌, length, drop, ◌+ℤ◌, nat_abs}
+use Rattle.std.proofs.Common.{◌≡◌, ◌*◌, ◌^◌, ◌≤◌, drop, ◌+ℤ◌, nat_abs}
 use Rattle.rows.specs.Prices.{price}
 use Rattle.rows.proofs.prices.price.Given as goal
 

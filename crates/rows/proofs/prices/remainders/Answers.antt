@@ -1,4 +1,4 @@
-use Rattle.std.proofs.Common.{◌≡◌, ℕ, ◌%◌, ◌^◌, get_or, ℤ, pos, nat_abs, ap, ◌∙◌, arith, take_all, w64, SFits, rules}
+use Rattle.std.proofs.Common.{ℕ, ◌%◌, ◌^◌, get_or, ℤ, pos, nat_abs, ap, arith, take_all, w64, SFits, rules}
 use Rattle.std.proofs.lemmas.List.Sums.{sum_by_more}
 use Rattle.std.proofs.lemmas.Int.{to_z-of_z}
 use Rattle.rows.proofs.Planes.{remainder_le}

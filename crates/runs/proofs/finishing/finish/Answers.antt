@@ -15,10 +15,10 @@ loop-preserved g c =
     let A = g.A.Augmenter in
     let L = g.met.A.Augmenter in
     let a = c.args.job.now.below in
-    let h : c.loop.counter < left (view A.dim c.args.job.now) = omega (arith, c.questions-left-end.ensures) in (
-      c.in-default.ensures.below ∙ c.loop.invariant.0,
-      λ w. going_more (A.dim a) (A.reaches a) (A.Member a) (L.dim_fits a) (L.reach_fits a) (L.member_is_point a) (view A.dim c.args.job.now) (view A.dim c.loop.job) (view A.dim c.advance.new.self) c.loop.counter c.in-default.field-0 h (c.loop.invariant.1 w)
-          (advanced_at A.dim A.reaches A.Member _ _ (view A.dim c.loop.job) (view A.dim c.advance.new.self) (Ok c.in-default.field-0) c.loop.invariant.0 c.in-default.ensures.moves),
+    let h : c.loop.counter < left (view A.dim c.args.job.now) = omega (arith, c.questions_left-end.ensures) in (
+      c.in_default.ensures.below ∙ c.loop.invariant.0,
+      λ w. going_more (A.dim a) (A.reaches a) (A.Member a) (L.dim_fits a) (L.reach_fits a) (L.member_is_point a) (view A.dim c.args.job.now) (view A.dim c.loop.job) (view A.dim c.advance.new.self) c.loop.counter c.in_default.field-0 h (c.loop.invariant.1 w)
+          (advanced_at A.dim A.reaches A.Member _ _ (view A.dim c.loop.job) (view A.dim c.advance.new.self) (Ok c.in_default.field-0) c.loop.invariant.0 c.in_default.ensures.moves),
     )
 
 pub returns-in-Err : goal.returns-in-Err
@@ -26,7 +26,7 @@ returns-in-Err g c =
     let A = g.A.Augmenter in
     let L = g.met.A.Augmenter in
     let a = c.args.job.now.below in
-    let h : c.loop.counter < left (view A.dim c.args.job.now) = omega (arith, c.questions-left-end.ensures) in
+    let h : c.loop.counter < left (view A.dim c.args.job.now) = omega (arith, c.questions_left-end.ensures) in
     record {
       below = c.in-Err.ensures.below ∙ c.loop.invariant.0;
       ends = λ w. absurd
@@ -39,7 +39,7 @@ returns-in-Ok g c =
     let A = g.A.Augmenter in
     let L = g.met.A.Augmenter in
     let a = c.args.job.now.below in
-    let h : left (view A.dim c.args.job.now) ≤ c.loop.counter = omega (arith, c.questions-left-end.ensures) in
+    let h : left (view A.dim c.args.job.now) ≤ c.loop.counter = omega (arith, c.questions_left-end.ensures) in
     record {
       below = c.in-Ok.ensures.below ∙ c.loop.invariant.0;
       ends = λ w.

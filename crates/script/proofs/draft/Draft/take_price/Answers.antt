@@ -20,8 +20,8 @@ returns c cs h a =
     let k : Said = (67, o) in
     let n = h.named in
     let prices = c.args.self.now.problem.prices in
-    let f : SFits w64 c.cast-signed-price.result = search rules in
-    let v = to_z-of_z w64 _ f ∙ price_value o _ _ c.requires.1 c.cast-signed-price.ensures c.number.ensures.short in (
+    let f : SFits w64 c.cast_signed-price.result = search rules in
+    let v = to_z-of_z w64 _ f ∙ price_value o _ _ c.requires.1 c.cast_signed-price.ensures c.number.ensures.short in (
       price_passes cs s t o a h.stage c.requires.0 (omega arith),
       record {
         stage = stage_on cs k s t h.stage c.requires.0;

@@ -6,9 +6,9 @@ use Rattle.std.proofs.lemmas.Int.{to_z-of_z}
 use Rattle.script.proofs.Taking.{named_on, prices_more, reached_on, rows_on, stage_on, started_on, units_beyond, units_passes, units_unknown, units_value}
 use Rattle.script.proofs.draft.Draft.take_units.Goals as goal
 
-pub returns-in-default : goal.returns-in-default
-returns-in-default c cs h a =
-    let e = c.in-default.ensures in
+pub returns-in_default : goal.returns-in_default
+returns-in_default c cs h a =
+    let e = c.in_default.ensures in
     units_unknown cs c.args.self.now.stage c.args.stage c.args.operand.now a h.stage c.requires.0
     (λ k. let q = ap option_is_some e in let z : ◌≡◌ {A = ℕ} 0 1 = cc in omega arith)
 
