@@ -14,7 +14,7 @@ use Rattle.job.specs.Calls.{Advanced, AdvancedFrom}
 use Rattle.job.specs.Soundness.{Standing, Sound, left}
 use Rattle.job.specs.Views.{View, IsBegun, IsOpen, more, opened, left_at}
 use Rattle.job.proofs.Sounds.{totals_few, advance_keeps, member, cheapest}
-use Rattle.runs.specs.Finishing.{planes_left, Finishes, Finish}
+use Rattle.runs.specs.Finishing.{planes_left, Finishes, Finish, FinishLeaves}
 
 -- the job a after i advances, which shows b
 pub record Going (n R : ℕ) (M : List ℕ → Type 0) (a b : View) (i : ℕ) : Type 0 where
@@ -189,6 +189,12 @@ module _ (n R : ℕ) (M : List ℕ → Type 0) (small : n ≤ 128) (low : R < 2 
           rows = g.rows;
         }),
       )
+
+  pub finish_leaves : (a b c : View) (i : ℕ) (r : Step) → left a ≤ i → Going n R M a b i → Advanced n R M b (Ok r) c → FinishLeaves a (Ok tt) c
+  finish_leaves a b c i r h g q =
+      let f = last_from a b c i r b.state refl h g g.sound.stands q in
+      let P : View → Type 0 = λ v. FinishLeaves a (Ok tt) v in
+      subst P (sym f.1) (g.number, g.ticketing)
 
   refused_from : (b c : View) (s : State) (e : Refusal) → s ≡ NotBegun → AdvancedFrom n R M b s (Err e) c → (e ≡ record { fault = NotBegunFault; place = 0 }) × (c ≡ b)
   refused_from b c NotBegun e es q = q

@@ -1,5 +1,5 @@
 ghost use Rattle.std.specs.Prelude.{◌≡◌, ℕ};
-ghost use Rattle.runs.specs.Finishing.{FinishBy};
+ghost use Rattle.runs.specs.Finishing.{FinishBy, FinishLeavesBy};
 
 use augmenter::Augmenter;
 use job::job::Job;
@@ -9,6 +9,7 @@ use rows::refusals::Refusal;
 pub fn finish<A: Augmenter>(job: &mut Job<A>) -> Result<(), Refusal>
     ensures below { job.new.below ≡ job.old.below }
     ensures ends { FinishBy A.dim A.reaches A.Member job.old result job.new }
+    ensures leaves { FinishLeavesBy A.dim A.reaches A.Member job.old result job.new }
 {
     for _ in 0..job.questions_left() {
         if let Err(refusal) = job.advance() {

@@ -6,7 +6,8 @@ pub invariant_of-result : goal.invariant_of-result
 invariant_of-result g c =
     let few = g.met.A.Augmenter.dim_fits c.args.below in
     let passed = c.in_ok-making_checks.ensures in
-    kept_facts _ c.args.numbers.now _ passed.0 (row_back _ _ _ passed.0 (omega arith) c.padded.ensures) passed.1.0
+    let k = kept_facts _ c.args.numbers.now _ passed.0 (row_back _ _ c.padded.result passed.0 (omega arith) c.padded.ensures) passed.1.0 in
+    record { small = k.0; inside = k.1.0; apart = k.1.1.0 }
 
 pub returns : goal.returns
 returns g c =

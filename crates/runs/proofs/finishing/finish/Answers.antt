@@ -1,7 +1,7 @@
 use Rattle.std.proofs.Common.{◌≡◌, ◌<◌, ◌≤◌, Ok, Err, refl, ◌∙◌, arith}
 use Rattle.job.specs.Jobs.{view}
 use Rattle.job.specs.Soundness.{left}
-use Rattle.runs.proofs.Ends.{going_none, going_more, going_on, finish_ok, finish_refused, advanced_at}
+use Rattle.runs.proofs.Ends.{going_none, going_more, going_on, finish_ok, finish_leaves, finish_refused, advanced_at}
 use Rattle.runs.proofs.finishing.finish.Goals as goal
 
 pub loop-init : goal.loop-init
@@ -32,6 +32,9 @@ returns-in-Err g c =
       ends = λ w. absurd
           (going_on (A.dim a) (A.reaches a) (A.Member a) (L.dim_fits a) (L.reach_fits a) (L.member_is_point a) (view A.dim c.args.job.now) (view A.dim c.loop.job) (view A.dim c.advance.new.self) c.loop.counter c.in-Err.refusal h (c.loop.invariant.1 w)
           (advanced_at A.dim A.reaches A.Member _ _ (view A.dim c.loop.job) (view A.dim c.advance.new.self) (Err c.in-Err.refusal) c.loop.invariant.0 c.in-Err.ensures.moves));
+      leaves = λ w. absurd
+          (going_on (A.dim a) (A.reaches a) (A.Member a) (L.dim_fits a) (L.reach_fits a) (L.member_is_point a) (view A.dim c.args.job.now) (view A.dim c.loop.job) (view A.dim c.advance.new.self) c.loop.counter c.in-Err.refusal h (c.loop.invariant.1 w)
+          (advanced_at A.dim A.reaches A.Member _ _ (view A.dim c.loop.job) (view A.dim c.advance.new.self) (Err c.in-Err.refusal) c.loop.invariant.0 c.in-Err.ensures.moves));
     }
 
 pub returns-in-Ok : goal.returns-in-Ok
@@ -45,6 +48,9 @@ returns-in-Ok g c =
       ends = λ w.
           finish_ok (A.dim a) (A.reaches a) (A.Member a) (L.dim_fits a) (L.reach_fits a) (L.member_is_point a) (view A.dim c.args.job.now) (view A.dim c.loop.job) (view A.dim c.advance-2.new.self) c.loop.counter c.in-Ok.field-0 h (c.loop.invariant.1 w)
           (advanced_at A.dim A.reaches A.Member _ _ (view A.dim c.loop.job) (view A.dim c.advance-2.new.self) (Ok c.in-Ok.field-0) c.loop.invariant.0 c.in-Ok.ensures.moves);
+      leaves = λ w.
+          finish_leaves (A.dim a) (A.reaches a) (A.Member a) (L.dim_fits a) (L.reach_fits a) (L.member_is_point a) (view A.dim c.args.job.now) (view A.dim c.loop.job) (view A.dim c.advance-2.new.self) c.loop.counter c.in-Ok.field-0 h (c.loop.invariant.1 w)
+          (advanced_at A.dim A.reaches A.Member _ _ (view A.dim c.loop.job) (view A.dim c.advance-2.new.self) (Ok c.in-Ok.field-0) c.loop.invariant.0 c.in-Ok.ensures.moves);
     }
 
 pub returns-in-Err-advance : goal.returns-in-Err-advance
@@ -57,4 +63,6 @@ returns-in-Err-advance g c =
       ends = λ w.
           finish_refused (A.dim a) (A.reaches a) (A.Member a) (L.dim_fits a) (L.reach_fits a) (L.member_is_point a) (view A.dim c.args.job.now) (view A.dim c.loop.job) (view A.dim c.advance-2.new.self) c.loop.counter c.in-Err-advance.refusal (c.loop.invariant.1 w)
           (advanced_at A.dim A.reaches A.Member _ _ (view A.dim c.loop.job) (view A.dim c.advance-2.new.self) (Err c.in-Err-advance.refusal) c.loop.invariant.0 c.in-Err-advance.ensures.moves);
+      leaves = λ w. (finish_refused (A.dim a) (A.reaches a) (A.Member a) (L.dim_fits a) (L.reach_fits a) (L.member_is_point a) (view A.dim c.args.job.now) (view A.dim c.loop.job) (view A.dim c.advance-2.new.self) c.loop.counter c.in-Err-advance.refusal (c.loop.invariant.1 w)
+          (advanced_at A.dim A.reaches A.Member _ _ (view A.dim c.loop.job) (view A.dim c.advance-2.new.self) (Err c.in-Err-advance.refusal) c.loop.invariant.0 c.in-Err-advance.ensures.moves)).2;
     }
