@@ -48,7 +48,7 @@ fn five_and_minus_three(rt: HostRuntime) -> Result<(), Fail> {
             rows: 1,
         }
     );
-    assert_eq!(rt; job.point(), &[0, 1]);
+    assert_eq!(rt; job.point(), [0, 1].as_slice());
     Ok(())
 }
 
@@ -62,7 +62,7 @@ fn one_against_three(rt: HostRuntime) -> Result<(), Fail> {
     assert_eq!(rt; advanced(&mut job)?, (Step::Closed, 3));
     assert_eq!(rt; advanced(&mut job)?, (Step::Improved, 2));
     assert_eq!(rt; advanced(&mut job)?, (Step::Closed, 0));
-    assert_eq!(rt; job.point(), &[1, 0, 0, 0]);
+    assert_eq!(rt; job.point(), [1, 0, 0, 0].as_slice());
     Ok(())
 }
 
@@ -131,11 +131,11 @@ fn ledger(rt: HostRuntime) -> Result<(), Fail> {
 #[test]
 fn no_plane(rt: HostRuntime) -> Result<(), Fail> {
     let mut job = pair()?;
-    assert_eq!(rt; job.point(), &[0, 0]);
+    assert_eq!(rt; job.point(), [0, 0].as_slice());
     job.begin(&[1, 0], &[0, 0])?;
     assert_eq!(rt; job.state(), State::Finished);
     assert_eq!(rt; (job.questions_left(), job.margin()), (0, 0));
-    assert_eq!(rt; job.prices(), &[0, 0]);
-    assert_eq!(rt; job.point(), &[1, 0]);
+    assert_eq!(rt; job.prices(), [0, 0].as_slice());
+    assert_eq!(rt; job.point(), [1, 0].as_slice());
     Ok(())
 }

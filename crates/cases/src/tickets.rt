@@ -25,15 +25,15 @@ fn plan_of_the_pair(rt: HostRuntime) -> Result<(), Fail> {
     let mut job = finished()?;
     let mut plan = [7u8; 48];
     job.write_plan(&mut plan)?;
-    assert_eq!(rt; &plan[0..4], &[0x4B, 0x4C, 0x4E, 2]);
-    assert_eq!(rt; &plan[4..9], &[0x4A, 0, 0, 0, 1]);
-    assert_eq!(rt; &plan[9..12], &[0x58, 2, 0]);
-    assert_eq!(rt; &plan[12..26], &[0; 14]);
-    assert_eq!(rt; &plan[26..30], &[0x4D, 0xFF, 0xFF, 0xFF]);
-    assert_eq!(rt; &plan[30..35], &[0xFF, 0xFF, 0xFF, 0xFF, 0xFD]);
-    assert_eq!(rt; &plan[35..40], &[0x51, 0, 0, 0, 4]);
-    assert_eq!(rt; &plan[40..45], &[0x49, 0, 0, 0, 1]);
-    assert_eq!(rt; &plan[45..48], &[0x5A, 7, 7]);
+    assert_eq!(rt; &plan[0..4], [0x4B, 0x4C, 0x4E, 2].as_slice());
+    assert_eq!(rt; &plan[4..9], [0x4A, 0, 0, 0, 1].as_slice());
+    assert_eq!(rt; &plan[9..12], [0x58, 2, 0].as_slice());
+    assert_eq!(rt; &plan[12..26], [0; 14].as_slice());
+    assert_eq!(rt; &plan[26..30], [0x4D, 0xFF, 0xFF, 0xFF].as_slice());
+    assert_eq!(rt; &plan[30..35], [0xFF, 0xFF, 0xFF, 0xFF, 0xFD].as_slice());
+    assert_eq!(rt; &plan[35..40], [0x51, 0, 0, 0, 4].as_slice());
+    assert_eq!(rt; &plan[40..45], [0x49, 0, 0, 0, 1].as_slice());
+    assert_eq!(rt; &plan[45..48], [0x5A, 7, 7].as_slice());
     Ok(())
 }
 
@@ -64,7 +64,7 @@ fn repriced(rt: HostRuntime) -> Result<(), Fail> {
     assert_eq!(rt; (job.margin(), job.questions_left()), (8, 7));
     finish(&mut job)?;
     assert_eq!(rt; job.state(), State::Finished);
-    assert_eq!(rt; job.point(), &[1, 0]);
+    assert_eq!(rt; job.point(), [1, 0].as_slice());
     assert_eq!(rt;
         (job.totals().rows, job.totals().asked, job.totals().improved),
         (2, 8, 2)
