@@ -1,13 +1,12 @@
 -- What is written reads back, and what reads whole is what would be written: one command, and a run of them.
-use Rattle.std.proofs.Common.{◌≡◌, ℕ, suc, ◌+◌, ◌-◌, ◌<◌, ◌≤◌, true, List, [], ◌∷◌, ◌++◌, map, length, get_or, take, drop, is_some, Some, None, Ok, Err, Option, Result, sym, refl, ap, ◌∙◌, subst, arith, length-append, length-drop, take-add}
+use Rattle.std.proofs.Common.{◌≡◌, ℕ, suc, ◌+◌, ◌-◌, ◌<◌, ◌≤◌, true, List, [], ◌∷◌, ◌++◌, map, length, get_or, take, drop, is_some, Some, None, Ok, Err, Option, sym, refl, ap, ◌∙◌, subst, arith, length-append, length-drop, take-add}
 use Rattle.std.specs.List.{flat_map, AllByRecursion as All}
 use Rattle.std.proofs.lemmas.List.{append_assoc, append-nil, drop_at, drop_more, get_or_at, length-take-le, take_at}
 use Rattle.rows.specs.Refusals.{Passes}
-use Rattle.rows.specs.declared.refusals.Refusal.{Refusal}
 use Rattle.rows.proofs.Checks.{not_both}
 use Rattle.commands.specs.declared.command.Command.{Command}
 use Rattle.commands.specs.Commands.{Said, Whole, bytes, said, width_of}
-use Rattle.commands.specs.Reading.{Comes, Given, Known, Next, Put, Readings, ReadingLaws, ReadsBack, WouldWrite, WritesBackRun, operand_width, or_0, reading_checks, standing, write_checks}
+use Rattle.commands.specs.Reading.{Comes, Given, Next, Readings, ReadingLaws, ReadsBack, WouldWrite, WritesBackRun, operand_width, or_0, reading_checks, standing, write_checks}
 
 pub pair_same : (a b : ℕ) (x y : List ℕ) → a ≡ b → x ≡ y → ◌≡◌ {A = Said} (a, x) (b, y)
 pair_same a b x y p q = cc

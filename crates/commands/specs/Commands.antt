@@ -1,6 +1,6 @@
 -- Commands as they stand in bytes: a letter, and an operand of the width that the letter decides.
 -- Letters are ASCII codes; each line of the table names its letter and what the operand says.
-use Rattle.std.specs.Prelude.{◌≡◌, ℕ, cond, List, [], ◌∷◌, ◌++◌, length, Some, None, Option, ◌==◌}
+use Rattle.std.specs.Prelude.{◌≡◌, ℕ, cond, List, [], ◌∷◌, length, Some, None, Option, ◌==◌}
 use Rattle.commands.specs.declared.command.Command.{Command}
 use Rattle.commands.specs.declared.command.Command.TheVariants.{Dimension, Reach, ListedRow, FlowNodes, GraphNodes, Arc, Balance, Classes, Class, Capacity, Price, Units, Start, End, Kind, JobNumber, Point, Cost, Asked, Improved, Refused}
 

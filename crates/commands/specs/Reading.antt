@@ -1,6 +1,6 @@
 -- Reading and writing: one command at a time, and whole runs of them; and that each undoes the other.
 -- s is a script and a a place in it, b the place after a reading; u is a buffer before a writing and v after it.
-use Rattle.std.specs.Prelude.{◌≡◌, ℕ, ◌+◌, ◌-◌, ◌<◌, ◌≤◌, true, List, [], ◌∷◌, ◌++◌, map, length, take, drop, is_some, Some, None, Ok, Err, Option, Result, slice_index, slice_range}
+use Rattle.std.specs.Prelude.{◌≡◌, ℕ, ◌+◌, ◌<◌, ◌≤◌, true, List, [], ◌∷◌, ◌++◌, map, length, take, drop, is_some, Some, None, Ok, Err, Option, Result, slice_index, slice_range}
 use Rattle.std.specs.List.{flat_map, AllByRecursion as All}
 use Rattle.rows.specs.Refusals.{Check, ask, ask_here, Passes, RefusedBy}
 use Rattle.rows.specs.declared.refusals.Fault.TheVariants.{ShortBuffer, UnknownLetter, Width}

@@ -1,5 +1,5 @@
 -- One question put with parts of arrays: what better says of the parts, said of the rows that they are.
-use Rattle.std.proofs.Common.{◌≡◌, ℕ, List, ◌++◌, length, take, ℤ, Some, None, Ok, Err, Result, sym, subst}
+use Rattle.std.proofs.Common.{◌≡◌, ℕ, List, ◌++◌, length, ℤ, Some, None, Ok, Err, sym, subst}
 use Rattle.std.proofs.lemmas.List.{take_at}
 use Rattle.rows.specs.Points.{Point}
 use Rattle.rows.specs.Refusals.{Passes, RefusedBy}

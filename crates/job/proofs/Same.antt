@@ -1,5 +1,5 @@
 -- Equal views, and rows read back from the arrays that keep them.
-use Rattle.std.proofs.Common.{◌≡◌, ℕ, ◌≤◌, List, ◌++◌, length, take, replicate, ℤ, refl, ap, ◌∙◌, subst}
+use Rattle.std.proofs.Common.{◌≡◌, ℕ, ◌≤◌, List, ◌++◌, length, take, replicate, ℤ, ap, ◌∙◌, subst}
 use Rattle.rows.proofs.Padding.{take_padded}
 use Rattle.job.specs.declared.parts.State.{State}
 use Rattle.job.specs.declared.parts.Totals.{Totals}

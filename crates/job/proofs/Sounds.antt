@@ -1,13 +1,13 @@
 -- Soundness: a job just made has it, begin and advance keep it, and what it gives.
-use Rattle.std.proofs.Common.{◌≡◌, ℕ, zero, suc, ◌+◌, ◌-◌, ◌*◌, ◌^◌, ◌<◌, ◌≤◌, min, ◌⊎◌, List, length, replicate, ℤ, pos, ◌+ℤ◌, ◌≤ℤ◌, ◌<ℤ◌, Ok, Err, Result, sym, refl, ap, ◌∙◌, subst, inl, inr, ⊎_elim, arith}
+use Rattle.std.proofs.Common.{◌≡◌, ℕ, zero, suc, ◌+◌, ◌*◌, ◌^◌, ◌<◌, ◌≤◌, ◌⊎◌, List, length, ℤ, pos, ◌+ℤ◌, ◌≤ℤ◌, Ok, Err, Result, sym, refl, ap, ◌∙◌, subst, inl, inr, ⊎_elim, arith}
 use Rattle.std.proofs.lemmas.List.{length-replicate}
 use Rattle.std.proofs.lemmas.Int.{ints}
 use Rattle.std.proofs.lemmas.Bool.{cases_eq}
 use Rattle.rows.specs.Points.{Point, Marks, BadMark}
-use Rattle.rows.specs.Prices.{price, weight, ones, largest, planes, row_at, bits, remainders, ones_below, Under}
-use Rattle.rows.specs.Refusals.{Passes, RefusedBy}
+use Rattle.rows.specs.Prices.{price, weight, ones, planes, row_at, bits, Under}
+use Rattle.rows.specs.Refusals.{RefusedBy}
 use Rattle.rows.specs.declared.refusals.Refusal.{Refusal}
-use Rattle.rows.proofs.Checks.{Excludes, not_both}
+use Rattle.rows.proofs.Checks.{not_both}
 use Rattle.rows.proofs.Planes.{next_plane, full_prices, at_zero, zeros_above, under_planes, under_largest, top_light, weight_at, length_at, few_planes, few_ones, bits_few, ones_below_suc, ones_below_all, ones_below_zero, remainders_suc}
 use Rattle.augmenter.specs.Questions.{checks, Cheapest, Cheaper}
 use Rattle.job.specs.declared.parts.State.{State}
@@ -18,8 +18,8 @@ use Rattle.job.specs.declared.parts.Totals.{Totals}
 use Rattle.job.specs.declared.parts.Ticket.{Ticket}
 use Rattle.job.specs.declared.parts.Ticketing.{Ticketing}
 use Rattle.job.specs.declared.parts.Ticketing.TheVariants.{Unissued, Out, Written}
-use Rattle.job.specs.Views.{View, IsBegun, IsOpen, more, blank, opened, accepted, improved, closed, ticketed, margin_at, left_at}
-use Rattle.job.specs.Calls.{begin_checks, question_checks, Began, Advanced, AdvancedFrom, Repriced}
+use Rattle.job.specs.Views.{View, IsBegun, IsOpen, more, blank, opened, accepted, ticketed, margin_at, left_at}
+use Rattle.job.specs.Calls.{Began, Advanced, AdvancedFrom, Repriced}
 use Rattle.job.specs.Tickets.{Issued, Valid, Withdrew}
 use Rattle.job.specs.Tries.{TriedWrite}
 use Rattle.job.specs.Soundness.{Standing, Spent, Sound, left, BeginKeeps, AdvanceKeeps, Near}

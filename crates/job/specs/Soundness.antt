@@ -9,7 +9,7 @@ use Rattle.job.specs.declared.parts.State.TheVariants.{NotBegun, Open, Finished}
 use Rattle.job.specs.declared.parts.Step.{Step}
 use Rattle.job.specs.declared.parts.Totals.{Totals}
 use Rattle.job.specs.declared.parts.Ticketing.TheVariants.{Unissued}
-use Rattle.job.specs.Views.{View, IsBegun, IsOpen, left_at}
+use Rattle.job.specs.Views.{View, IsOpen, left_at}
 
 -- how the point stands among the members. At the open plane k no member is cheaper by more than the magnitudes that have
 -- bit k, less the improvements made there; in a finished job no member is cheaper at the full prices

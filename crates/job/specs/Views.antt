@@ -7,7 +7,7 @@ use Rattle.job.specs.declared.parts.State.TheVariants.{NotBegun, Open, Finished}
 use Rattle.job.specs.declared.parts.Totals.{Totals}
 use Rattle.job.specs.declared.parts.Line.{Line}
 use Rattle.job.specs.declared.parts.Ticketing.{Ticketing}
-use Rattle.job.specs.declared.parts.Ticketing.TheVariants.{Unissued, Out, Written}
+use Rattle.job.specs.declared.parts.Ticketing.TheVariants.{Unissued}
 
 -- what a job shows; point and prices have the dimension of its augmenter
 pub record View : Type 0 where

@@ -1,21 +1,20 @@
 -- What a script describes can be made into a set, and of a beginning's checks only weight and membership can still refuse it.
-use Rattle.std.proofs.Common.{◌≡◌, ℕ, zero, suc, ◌+◌, ◌^◌, ◌<◌, ◌≤◌, true, false, cond, eqb, ◌⊎◌, List, [], ◌∷◌, ◌++◌, map, length, get_or, take, ℤ, Ok, Err, Result, sym, refl, ap, ◌∙◌, subst, inl, inr, ⊎_elim, arith, length-append, length-take}
+use Rattle.std.proofs.Common.{◌≡◌, ℕ, zero, suc, ◌^◌, ◌<◌, true, false, cond, eqb, List, [], ◌∷◌, ◌++◌, length, ℤ, Ok, Err, Result, sym, refl, ap, ◌∙◌, subst, inl, inr, ⊎_elim, arith, length-take}
 use Rattle.std.specs.Int.Digits.{number_from_digits}
 use Rattle.std.proofs.lemmas.List.{append_assoc, length-take-le}
 use Rattle.std.proofs.lemmas.Bool.{cases_Bool, eqb-true}
-use Rattle.rows.specs.Packed.{ClearFrom, unpacked}
-use Rattle.rows.specs.Points.{BadMark, Marks, Point}
-use Rattle.rows.specs.Prices.{weight}
-use Rattle.rows.specs.Refusals.{Passes, RefusedBy, ask, ask_at}
-use Rattle.rows.specs.declared.refusals.Fault.TheVariants.{Length, Mark, NotMember, Weight}
+use Rattle.rows.specs.Packed.{ClearFrom}
+use Rattle.rows.specs.Points.{BadMark, Marks}
+use Rattle.rows.specs.Refusals.{Passes, ask, ask_at}
+use Rattle.rows.specs.declared.refusals.Fault.TheVariants.{Length, Mark}
 use Rattle.rows.specs.declared.refusals.Refusal.{Refusal}
 use Rattle.rows.proofs.Checks.{not_both, past}
 use Rattle.rows.proofs.Packing.{unpacked_point}
-use Rattle.augmenter.specs.Questions.{Lengths, checks}
+use Rattle.augmenter.specs.Questions.{Lengths}
 use Rattle.commands.specs.Commands.{Said}
 use Rattle.listed.specs.Lists.{ClearRows, ListedIn, making_checks}
 use Rattle.runs.specs.Planning.{PlanOf}
-use Rattle.script.specs.Scripts.{Begins, Describes, InOrder, Last, Means, Refuses, dimension_of, letter, rows_of}
+use Rattle.script.specs.Scripts.{Begins, Describes, InOrder, Last, Means, dimension_of, rows_of}
 use Rattle.script.specs.declared.problem.Problem.{Problem}
 use Rattle.planning.specs.Answers.{Member, Solved, Solves, prices_in, rows_in, start_checks, start_in}
 

@@ -1,6 +1,6 @@
 -- The bytes of an answer: those of a plan, or one command E with the number of a refusal and its place.
 -- Numbers stand with their high byte first.
-use Rattle.std.specs.Prelude.{ℕ, List, [], ◌∷◌}
+use Rattle.std.specs.Prelude.{ℕ, List, ◌∷◌}
 use Rattle.rows.specs.Bytes.{big_endian}
 use Rattle.rows.specs.Refusals.{number as numbered}
 use Rattle.rows.specs.declared.refusals.Refusal.{Refusal}

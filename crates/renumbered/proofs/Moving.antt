@@ -1,5 +1,5 @@
 -- A question above and the question that it becomes below: the same prices, weights and members.
-use Rattle.std.proofs.Common.{◌≡◌, ℕ, ◌<◌, ◌≤◌, List, length, get_or, ℤ, ◌≤ℤ◌, ◌<ℤ◌, Ok, Err, sym, refl, ◌∙◌, subst, subst₂, arith}
+use Rattle.std.proofs.Common.{◌≡◌, ℕ, ◌≤◌, List, length, get_or, ℤ, ◌≤ℤ◌, ◌<ℤ◌, Ok, Err, sym, refl, ◌∙◌, subst, subst₂, arith}
 use Rattle.std.proofs.lemmas.List.{same_lists}
 use Rattle.rows.specs.Points.{Marks, Point}
 use Rattle.rows.specs.Prices.{price}

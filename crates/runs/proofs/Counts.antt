@@ -1,5 +1,5 @@
 -- The counts of a history, and how each call keeps a job's totals equal to them.
-use Rattle.std.proofs.Common.{◌≡◌, ℕ, zero, suc, ◌+◌, ◌-◌, ◌*◌, ◌^◌, ◌<◌, ◌≤◌, min, List, [], ◌∷◌, ◌++◌, length, ℤ, Ok, Err, Result, sym, refl, ap, ◌∙◌, subst, ⊎_elim, arith}
+use Rattle.std.proofs.Common.{◌≡◌, ℕ, zero, suc, ◌+◌, ◌^◌, ◌<◌, ◌≤◌, List, [], ◌∷◌, ◌++◌, ℤ, Ok, Err, Result, sym, refl, ap, ◌∙◌, subst, ⊎_elim, arith}
 use Rattle.std.proofs.lemmas.List.Sums.{sum_by_push, fold_push}
 use Rattle.rows.specs.Points.{Point}
 use Rattle.rows.specs.Prices.{weight, ones, planes, bits, ones_below, Under}
@@ -16,8 +16,8 @@ use Rattle.job.specs.declared.tries.Call.{Call}
 use Rattle.job.specs.declared.tries.Call.TheVariants.{Begin, Advance, Reprice, Issue, Write, Withdraw}
 use Rattle.job.specs.declared.tries.Outcome.{Outcome}
 use Rattle.job.specs.declared.tries.Outcome.TheVariants.{Accepted, Advanced as SteppedOn, Issued as Given, Written, Withdrawn, Refused}
-use Rattle.job.specs.Views.{View, IsBegun, IsOpen, more, opened, accepted, improved, closed, ticketed}
-use Rattle.job.specs.Calls.{Began, Advanced, AdvancedFrom, Repriced}
+use Rattle.job.specs.Views.{View, IsOpen, opened, accepted, ticketed}
+use Rattle.job.specs.Calls.{Began, AdvancedFrom, Repriced}
 use Rattle.job.specs.Soundness.{Standing, Sound}
 use Rattle.job.specs.Tickets.{Issued, Valid, Withdrew}
 use Rattle.job.specs.Tries.{TriedCall, TriedWrite, row_outcome, step_outcome, issue_outcome, write_outcome}

@@ -1,7 +1,6 @@
 -- A job advanced as often as questions may still come: it is then finished.
-use Rattle.std.proofs.Common.{◌≡◌, ℕ, zero, suc, ◌+◌, ◌-◌, ◌*◌, ◌^◌, ◌<◌, ◌≤◌, min, List, length, ℤ, Ok, Err, Result, sym, refl, ap, ◌∙◌, subst, arith}
+use Rattle.std.proofs.Common.{◌≡◌, ℕ, zero, suc, ◌+◌, ◌^◌, ◌<◌, ◌≤◌, List, ℤ, Ok, Err, Result, sym, refl, ap, ◌∙◌, subst, arith}
 use Rattle.rows.specs.Points.{Point}
-use Rattle.rows.specs.Prices.{bits, ones_below}
 use Rattle.rows.specs.declared.refusals.Fault.TheVariants.{NotBegun as NotBegunFault}
 use Rattle.rows.specs.declared.refusals.Refusal.{Refusal}
 use Rattle.rows.proofs.Planes.{ones_below_suc}

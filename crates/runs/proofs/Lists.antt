@@ -1,8 +1,8 @@
 -- Calls tried in turn: what is kept from one to the next, and the promise at the end.
-use Rattle.std.proofs.Common.{◌≡◌, ℕ, suc, ◌+◌, ◌^◌, ◌<◌, ◌≤◌, List, [], ◌∷◌, ◌++◌, length, get_or, take, drop, set, ℤ, pos, ◌+ℤ◌, ◌≤ℤ◌, sym, refl, ap, ◌∙◌, subst, arith, length-append}
+use Rattle.std.proofs.Common.{◌≡◌, ℕ, ◌+◌, ◌^◌, ◌<◌, ◌≤◌, List, [], ◌∷◌, ◌++◌, length, get_or, take, drop, set, ℤ, sym, refl, ap, ◌∙◌, subst, arith, length-append}
 use Rattle.std.proofs.lemmas.List.{take_more, take_more_set, drop-set-lt, drop-drop}
 use Rattle.rows.specs.Points.{Point}
-use Rattle.rows.specs.Prices.{price, ones, planes}
+use Rattle.rows.specs.Prices.{ones, planes}
 use Rattle.rows.proofs.Planes.{ones_below_suc}
 use Rattle.job.specs.declared.parts.State.{State}
 use Rattle.job.specs.declared.parts.State.TheVariants.{NotBegun, Open, Finished}
@@ -14,8 +14,8 @@ use Rattle.job.specs.Views.{View, IsBegun, blank, margin_at}
 use Rattle.job.specs.Soundness.{Standing, Sound, Near}
 use Rattle.job.specs.Tries.{TriedCall}
 use Rattle.job.proofs.Sounds.{blank_sound, member, near}
-use Rattle.runs.specs.History.{Turn, turns, acceptances, present}
-use Rattle.runs.specs.Promise.{TurnAfter, Promised, Runs, Tried}
+use Rattle.runs.specs.History.{Turn, turns, present}
+use Rattle.runs.specs.Promise.{TurnAfter, Runs, Tried}
 use Rattle.runs.proofs.Counts.{Tally, tally, Held, Kept, call_keeps, gains_few}
 use Rattle.runs.proofs.Plans.{Each, turn_after, each_more}
 

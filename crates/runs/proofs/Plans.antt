@@ -1,5 +1,5 @@
 -- What holds of each turn: a written plan is that of a cheapest member, and a question is never refused.
-use Rattle.std.proofs.Common.{◌≡◌, ℕ, ◌+◌, ◌^◌, ◌<◌, ◌≤◌, ◌⊎◌, List, [], ◌∷◌, ◌++◌, length, get_or, take, ℤ, Ok, Err, Result, sym, refl, ap, ◌∙◌, subst, inl, inr, arith, length-append}
+use Rattle.std.proofs.Common.{◌≡◌, ℕ, ◌^◌, ◌<◌, ◌≤◌, List, [], ◌∷◌, ◌++◌, length, get_or, take, ℤ, Ok, Err, Result, sym, refl, ap, ◌∙◌, subst, inl, inr, arith, length-append}
 use Rattle.std.proofs.lemmas.Bool.{cases_lt}
 use Rattle.std.proofs.lemmas.List.{get_or_append_left, get_or_push, take-append-le, take_at}
 use Rattle.rows.specs.Packed.{packed}
@@ -13,18 +13,16 @@ use Rattle.job.specs.declared.parts.State.{State}
 use Rattle.job.specs.declared.parts.State.TheVariants.{NotBegun, Open, Finished}
 use Rattle.job.specs.declared.parts.Step.{Step}
 use Rattle.job.specs.declared.parts.Ticket.{Ticket}
-use Rattle.job.specs.declared.parts.Ticketing.TheVariants.{Out, Written as PlanWritten}
 use Rattle.job.specs.declared.tries.Call.{Call}
 use Rattle.job.specs.declared.tries.Call.TheVariants.{Begin, Advance, Reprice, Issue, Write, Withdraw}
 use Rattle.job.specs.declared.tries.Outcome.{Outcome}
-use Rattle.job.specs.declared.tries.Outcome.TheVariants.{Accepted, Advanced as SteppedOn, Issued as Given, Written, Withdrawn, Refused}
+use Rattle.job.specs.declared.tries.Outcome.TheVariants.{Written, Withdrawn, Refused}
 use Rattle.job.specs.Views.{View, IsBegun}
 use Rattle.job.specs.Calls.{Advanced}
 use Rattle.job.specs.Soundness.{Sound}
-use Rattle.job.specs.Tickets.{plan_of}
 use Rattle.job.specs.Tries.{TriedCall, TriedWrite, row_outcome, step_outcome, issue_outcome, write_outcome}
 use Rattle.job.proofs.Sounds.{advance_keeps, out_finished, member, cheapest}
-use Rattle.runs.specs.History.{Turn, improvements, closings, acceptances, present, writings}
+use Rattle.runs.specs.History.{Turn}
 use Rattle.runs.specs.Promise.{PlanAfter, TurnAfter}
 use Rattle.runs.proofs.Counts.{Tally, tally, Held, Kept, not_yet}
 

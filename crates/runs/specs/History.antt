@@ -1,6 +1,6 @@
 -- Histories: the calls tried on a job since its making, each with what came of it, and what is counted over them.
 -- The present row is the last that was accepted.
-use Rattle.std.specs.Prelude.{◌≡◌, ℕ, ◌+◌, List, [], ◌∷◌, ℤ, fold, sum_by}
+use Rattle.std.specs.Prelude.{ℕ, ◌+◌, List, [], ◌∷◌, ℤ, fold, sum_by}
 use Rattle.rows.specs.Prices.{ones}
 use Rattle.job.specs.declared.parts.Step.{Step}
 use Rattle.job.specs.declared.parts.Step.TheVariants.{Improved, Closed, Done}

@@ -1,11 +1,10 @@
 -- The promise over every list of calls: what holds of a job just made, after any calls have been tried on it in turn.
 -- m is the job number, `letter`, n, R and M are kind letter, dimension, reach and set of the augmenter, v the job's view after the calls.
-use Rattle.std.specs.Prelude.{◌≡◌, ℕ, ◌+◌, ◌<◌, ◌≤◌, List, [], ◌∷◌, length, take, ℤ, slice_index_or}
+use Rattle.std.specs.Prelude.{◌≡◌, ℕ, ◌+◌, ◌<◌, ◌≤◌, List, [], ◌∷◌, length, take, slice_index_or}
 use Rattle.rows.specs.Packed.{packed}
 use Rattle.rows.specs.Prices.{price, ones, planes}
 use Rattle.augmenter.specs.Questions.{Cheapest}
 use Rattle.plans.specs.Bytes.{plan_bytes}
-use Rattle.job.specs.declared.parts.State.{State}
 use Rattle.job.specs.declared.parts.State.TheVariants.{Finished}
 use Rattle.job.specs.declared.tries.Call.{Call}
 use Rattle.job.specs.declared.tries.Call.TheVariants.{Advance}

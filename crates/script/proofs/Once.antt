@@ -1,5 +1,5 @@
 -- A script is settled: its bytes are commands in one way, so it is refused once, or describes one problem.
-use Rattle.std.proofs.Common.{◌≡◌, ℕ, ◌+◌, ◌<◌, ◌≤◌, ◌⊎◌, List, [], ◌∷◌, ◌++◌, map, length, take, drop, replicate, pos, Some, None, Option, sym, refl, ap, ◌∙◌, subst, inl, inr, ⊎_elim, arith, length-append}
+use Rattle.std.proofs.Common.{◌≡◌, ℕ, ◌⊎◌, List, [], ◌∷◌, ◌++◌, map, length, take, drop, replicate, pos, Some, None, Option, sym, refl, ap, ◌∙◌, subst, inl, inr, ⊎_elim, arith, length-append}
 use Rattle.std.specs.Int.Digits.{number_from_digits}
 use Rattle.std.specs.List.{flat_map, AllByRecursion as All}
 use Rattle.std.proofs.lemmas.List.{append_assoc, append-nil, drop_at, length-take-le, map_push, take-append-drop, take_at}
@@ -7,13 +7,12 @@ use Rattle.rows.specs.Refusals.{Passes, number as numbered}
 use Rattle.rows.specs.declared.refusals.Refusal.{Refusal}
 use Rattle.rows.proofs.Checks.{Exact, Excludes, not_both, one_refusal}
 use Rattle.commands.specs.Commands.{Said, Whole, bytes, width_of}
-use Rattle.commands.specs.Reading.{standing}
 use Rattle.commands.proofs.Runs.{long, pair_same, reads_whole, stands}
 use Rattle.commands.proofs.Writing.{joined_append}
 use Rattle.script.proofs.Order.{forward, run_append}
 use Rattle.script.proofs.Reading.{by_last}
 use Rattle.script.specs.Scripts.{Alike, Begins, Continues, Describes, Ended, Last, Means, Prices, Refuses, Settled, Stops, Upto, checks, command_checks, letter, price_of}
-use Rattle.script.specs.Stages.{next, run}
+use Rattle.script.specs.Stages.{run}
 use Rattle.script.specs.declared.draft.Stage.{Stage}
 use Rattle.script.specs.declared.draft.Stage.TheVariants.{Dimension, Done}
 use Rattle.script.specs.declared.problem.Problem.{Problem}

@@ -1,5 +1,5 @@
 -- The stages of the parser and the order of a script's letters: a letter has a stage after it exactly where a whole script goes on with it.
-use Rattle.std.proofs.Common.{◌≡◌, ℕ, Bool, true, false, cond, eqb, ◌⊎◌, List, [], ◌∷◌, ◌++◌, map, Some, None, Option, sym, refl, ap, ◌∙◌, subst, inl, inr, ⊎_elim, arith}
+use Rattle.std.proofs.Common.{◌≡◌, ℕ, cond, eqb, ◌⊎◌, List, [], ◌∷◌, ◌++◌, map, Some, None, Option, sym, refl, ap, ◌∙◌, subst, inl, inr, ⊎_elim, arith}
 use Rattle.commands.specs.Commands.{Said}
 use Rattle.script.specs.Scripts.{Continues, InOrder, letter}
 use Rattle.script.specs.Stages.{next, run}

@@ -1,5 +1,5 @@
 -- One command read and taken, and what follows for the whole script: how far it begins, what it describes, what refuses it.
-use Rattle.std.proofs.Common.{◌≡◌, ℕ, ◌+◌, ◌-◌, ◌<◌, ◌≤◌, ◌⊎◌, List, [], ◌∷◌, ◌++◌, map, length, get_or, take, drop, Some, None, Ok, Err, Option, sym, refl, ap, ◌∙◌, subst, inl, inr, ⊎_elim, arith, length-append, take-add}
+use Rattle.std.proofs.Common.{◌≡◌, ℕ, ◌+◌, ◌-◌, ◌<◌, ◌≤◌, ◌⊎◌, List, [], ◌∷◌, ◌++◌, length, get_or, take, Some, None, Ok, Err, Option, sym, refl, ap, ◌∙◌, subst, inl, inr, ⊎_elim, arith, length-append, take-add}
 use Rattle.std.specs.List.{flat_map}
 use Rattle.std.proofs.lemmas.List.{flat_map_more, same_from_push}
 use Rattle.rows.specs.Refusals.{Passes, RefusedBy, ask_here, number as numbered}
@@ -11,7 +11,7 @@ use Rattle.commands.specs.Commands.{Said, Whole, bytes, said}
 use Rattle.commands.specs.Reading.{Known, Next, operand_width, reading_checks, standing}
 use Rattle.commands.specs.declared.command.Command.{Command}
 use Rattle.commands.proofs.Runs.{part_is, place_after, whole}
-use Rattle.script.specs.Scripts.{Begins, Describes, Ended, Means, Refuses, Stops, Upto, checks, command_checks}
+use Rattle.script.specs.Scripts.{Begins, Describes, Ended, Means, Refuses, Stops, Upto, command_checks}
 use Rattle.script.specs.Stages.{Holds, Takes, run}
 use Rattle.script.specs.declared.draft.Draft.{Draft}
 use Rattle.script.specs.declared.draft.Stage.{Stage}

@@ -1,5 +1,5 @@
 -- One command more: what it adds to what the commands so far mean, and that it passes its checks or is refused by one of them.
-use Rattle.std.proofs.Common.{◌≡◌, ℕ, ◌+◌, ◌-◌, ◌*◌, ◌^◌, ◌<◌, ◌≤◌, Bool, true, false, cond, eqb, ◌⊎◌, List, [], ◌∷◌, ◌++◌, map, length, get_or, take, drop, set, replicate, ℤ, pos, is_some, Some, None, Decides, Option, sym, refl, ap, ◌∙◌, subst, ap₂, inl, inr, ⊎_elim, append-nil, arith, w64, to_z, Bor}
+use Rattle.std.proofs.Common.{◌≡◌, ℕ, ◌+◌, ◌-◌, ◌*◌, ◌^◌, ◌<◌, ◌≤◌, Bool, true, false, cond, eqb, ◌⊎◌, List, [], ◌∷◌, ◌++◌, map, length, get_or, take, drop, set, replicate, ℤ, pos, is_some, Some, None, Decides, Option, sym, refl, ap, ◌∙◌, subst, ap₂, inl, inr, ⊎_elim, arith, w64, to_z, Bor}
 use Rattle.std.specs.Int.Digits.{number_from_digits}
 use Rattle.std.proofs.ByRecursion.{All-push}
 use Rattle.std.proofs.lemmas.List.{append_assoc, get_or-set_other, get_or-set_same, length-drop, length-take-le, map_push, take_more_set, take_rest}
@@ -12,7 +12,7 @@ use Rattle.rows.specs.declared.refusals.Fault.TheVariants as fault
 use Rattle.commands.specs.Commands.{Said, said}
 use Rattle.commands.specs.declared.command.Command.{Command}
 use Rattle.commands.specs.declared.command.Command.TheVariants as command
-use Rattle.script.proofs.Order.{Step, order_bad, order_ok, run_append, step_in}
+use Rattle.script.proofs.Order.{order_ok, run_append, step_in}
 use Rattle.script.specs.Scripts.{InRange, Last, PriceAt, Prices as Pricing, ReachIs, StartIs, class_days, command_checks, dimension_of, letter, price_of, rows_of}
 use Rattle.script.specs.Stages.{Holds, next, run}
 use Rattle.script.specs.declared.draft.Draft.{Draft}

@@ -1,6 +1,6 @@
 -- How far a parser is. These words are no part of what a script means: they only say what the parser's private functions keep.
 -- cs are the commands taken so far, d and e a draft before and after one more.
-use Rattle.std.specs.Prelude.{◌≡◌, ℕ, ◌<◌, ◌≤◌, cond, List, [], ◌∷◌, ◌++◌, map, length, take, pos, Some, None, Ok, Err, Option, Result, ◌==◌, slice_index_or}
+use Rattle.std.specs.Prelude.{◌≡◌, ℕ, ◌<◌, cond, List, [], ◌∷◌, ◌++◌, map, length, take, pos, Some, None, Ok, Err, Option, Result, ◌==◌, slice_index_or}
 use Rattle.rows.specs.Refusals.{Passes, RefusedBy}
 use Rattle.rows.specs.declared.refusals.Fault.{Fault}
 use Rattle.commands.specs.Commands.{Said}

@@ -14,7 +14,7 @@ fn two_rows(rt: HostRuntime) -> Result<(), Fail> {
     let plan = answered(rt.alloc(), &[N2, L, P10, P01, C0, C1, S10, Z])?;
     assert_eq!(rt;
         plan.as_slice(),
-        b"KLN\x02J\0\0\0\x01X\x02\0\0\0\0\0\0\0\0\0\0\0\0\0\0\0M\xff\xff\xff\xff\xff\xff\xff\xfdQ\0\0\0\x04I\0\0\0\x01Z"
+        b"KLN\x02J\0\0\0\x01X\x02\0\0\0\0\0\0\0\0\0\0\0\0\0\0\0M\xff\xff\xff\xff\xff\xff\xff\xfdQ\0\0\0\x04I\0\0\0\x01Z".as_slice()
     );
     Ok(())
 }
@@ -26,7 +26,7 @@ fn no_coordinate(rt: HostRuntime) -> Result<(), Fail> {
     let plan = answered(rt.alloc(), &[b"N\0", L, p, s, Z])?;
     assert_eq!(rt;
         plan.as_slice(),
-        b"KLN\0J\0\0\0\x01X\0\0\0\0\0\0\0\0\0\0\0\0\0\0\0\0M\0\0\0\0\0\0\0\0Q\0\0\0\0I\0\0\0\0Z"
+        b"KLN\0J\0\0\0\x01X\0\0\0\0\0\0\0\0\0\0\0\0\0\0\0\0M\0\0\0\0\0\0\0\0Q\0\0\0\0I\0\0\0\0Z".as_slice()
     );
     Ok(())
 }
@@ -40,7 +40,7 @@ fn prices(rt: HostRuntime) -> Result<(), Fail> {
     )?;
     assert_eq!(rt;
         plan.as_slice(),
-        b"KLN\x02J\0\0\0\x01X\x02\0\0\0\0\0\0\0\0\0\0\0\0\0\0\0M\0\0\0\0\0\0\0\0Q\0\0\0\x05I\0\0\0\x01Z"
+        b"KLN\x02J\0\0\0\x01X\x02\0\0\0\0\0\0\0\0\0\0\0\0\0\0\0M\0\0\0\0\0\0\0\0Q\0\0\0\x05I\0\0\0\x01Z".as_slice()
     );
     let stays = answered(
         rt.alloc(),
@@ -57,7 +57,7 @@ fn prices(rt: HostRuntime) -> Result<(), Fail> {
     )?;
     assert_eq!(rt;
         stays.as_slice(),
-        b"KLN\x02J\0\0\0\x01X\x01\0\0\0\0\0\0\0\0\0\0\0\0\0\0\0M\xff\xff\xff\xff\xff\xff\xff\xfeQ\0\0\0\x02I\0\0\0\0Z"
+        b"KLN\x02J\0\0\0\x01X\x01\0\0\0\0\0\0\0\0\0\0\0\0\0\0\0M\xff\xff\xff\xff\xff\xff\xff\xfeQ\0\0\0\x02I\0\0\0\0Z".as_slice()
     );
     Ok(())
 }

@@ -20,7 +20,8 @@ pub fn reason(fault: Fault) -> &'static str {
         Fault::OutOfRange =>
             "a number is not below its count, or a packed point has a bit beyond the dimension",
         Fault::Pins => "the reach below is less than the number of pins",
-        Fault::Numbering => "a number of a renumbering is not below the dimension, or was seen earlier",
+        Fault::Numbering =>
+            "a number of a renumbering is not below the dimension, or was seen earlier",
         Fault::Begun => "the job has begun already",
         Fault::NotBegun => "the job has not begun",
         Fault::RowLimit => "the job has as many rows of prices as a job accepts",

@@ -1,4 +1,4 @@
-use Rattle.std.proofs.Common.{refl, arith, below_more}
+use Rattle.std.proofs.Common.{refl, below_more}
 use Rattle.std.proofs.lemmas.Slice.Eq.{slice_eq-Decides}
 use Rattle.std.proofs.lemmas.Bool.{both_ways}
 use Rattle.listed.proofs.has_row.Goals as goal

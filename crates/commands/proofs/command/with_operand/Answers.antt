@@ -1,6 +1,6 @@
-use Rattle.std.proofs.Common.{◌≡◌, ℕ, List, [], length, sym, ap, ◌∙◌}
+use Rattle.std.proofs.Common.{◌≡◌, [], length, sym, ap, ◌∙◌}
 use Rattle.std.proofs.lemmas.List.{nil_from_length}
-use Rattle.commands.specs.Commands.{Said, width_of}
+use Rattle.commands.specs.Commands.{width_of}
 use Rattle.commands.proofs.Runs.{pair_same}
 use Rattle.commands.proofs.command.with_operand.Goals as goal
 

@@ -1,4 +1,4 @@
-use Rattle.std.proofs.Common.{◌≡◌, ℕ, ◌-◌, ◌*◌, ◌^◌, ◌<◌, ◌≤◌, List, length, take, drop, ap, ◌∙◌, subst, arith, length-drop, pow_mono}
+use Rattle.std.proofs.Common.{◌≡◌, ℕ, ◌-◌, ◌*◌, ◌≤◌, List, length, take, drop, ap, ◌∙◌, arith, length-drop, pow_mono}
 use Rattle.std.proofs.lemmas.List.{take_rest}
 use Rattle.std.specs.Int.Digits.{number_from_digits}
 use Rattle.commands.proofs.numbers.number.Goals as goal

@@ -1,4 +1,4 @@
-use Rattle.std.proofs.Common.{◌≡◌, arith}
+use Rattle.std.proofs.Common.{arith}
 use Rattle.commands.specs.Commands.{bytes, said}
 use Rattle.commands.proofs.Writing.{put_part}
 use Rattle.commands.proofs.writer.put.Goals as goal

@@ -1,4 +1,4 @@
-use Rattle.std.proofs.Common.{refl, arith, rules}
+use Rattle.std.proofs.Common.{refl, arith}
 use Rattle.listed.proofs.Rows.{rows_back, rows_clear}
 use Rattle.listed.proofs.Listed.new.Goals as goal
 

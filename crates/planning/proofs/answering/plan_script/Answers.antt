@@ -1,8 +1,7 @@
-use Rattle.std.proofs.Common.{◌≡◌, ℕ, List, Result, sym, subst, inl}
+use Rattle.std.proofs.Common.{sym, subst, inl}
 use Rattle.std.proofs.lemmas.Result.{err_from_is_err_and}
 use Rattle.rows.specs.declared.refusals.Refusal.{Refusal}
 use Rattle.script.specs.Scripts.{Refuses}
-use Rattle.planning.specs.Answers.{Solved}
 use Rattle.planning.proofs.Solving.{solved}
 use Rattle.planning.proofs.answering.plan_script.Goals as goal
 

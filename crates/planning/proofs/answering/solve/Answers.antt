@@ -1,7 +1,7 @@
-use Rattle.std.proofs.Common.{◌≡◌, ℕ, ◌-◌, List, length, take, replicate, ℤ, refl, ap, ◌∙◌, arith, rules}
+use Rattle.std.proofs.Common.{◌≡◌, ℕ, ◌-◌, length, replicate, ap, ◌∙◌, rules}
 use borrow.Rule.Slice.PartMut.{mid_of}
 use Rattle.rows.specs.Packed.{unpacked}
-use Rattle.planning.specs.Answers.{prices_in, rows_in, start_in}
+use Rattle.planning.specs.Answers.{prices_in, rows_in}
 use Rattle.planning.proofs.Solving.{solves}
 use Rattle.planning.proofs.answering.solve.Goals as goal
 

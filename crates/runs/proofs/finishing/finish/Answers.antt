@@ -1,4 +1,4 @@
-use Rattle.std.proofs.Common.{◌≡◌, ◌<◌, ◌≤◌, Ok, Err, refl, ◌∙◌, arith}
+use Rattle.std.proofs.Common.{◌<◌, ◌≤◌, Ok, Err, refl, ◌∙◌, arith}
 use Rattle.job.specs.Jobs.{view}
 use Rattle.job.specs.Soundness.{left}
 use Rattle.runs.proofs.Ends.{going_none, going_more, going_on, finish_ok, finish_leaves, finish_refused, advanced_at}

@@ -1,4 +1,4 @@
-use Rattle.std.proofs.Common.{◌≡◌, ℕ, ◌+◌, Some, sym, refl, ap, ◌∙◌, arith}
+use Rattle.std.proofs.Common.{◌+◌, Some, sym, refl, ap, ◌∙◌, arith}
 use Rattle.commands.proofs.Runs.{next_is, operand_is, would_write}
 use Rattle.commands.proofs.reader.Reader.next.Goals as goal
 

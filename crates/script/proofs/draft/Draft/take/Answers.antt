@@ -1,4 +1,4 @@
-use Rattle.std.proofs.Common.{◌≡◌, sym, refl, ap, ◌∙◌}
+use Rattle.std.proofs.Common.{sym, refl, ap, ◌∙◌}
 use Rattle.commands.specs.Commands.{Said, said}
 use Rattle.script.specs.Stages.{next}
 use Rattle.script.proofs.Order.{order_bad}

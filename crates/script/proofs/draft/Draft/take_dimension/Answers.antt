@@ -1,4 +1,4 @@
-use Rattle.std.proofs.Common.{◌≡◌, List, [], ◌∷◌, ◌++◌, sym, refl, ap, ◌∙◌, subst, append-nil, arith}
+use Rattle.std.proofs.Common.{sym, ◌∙◌, append-nil, arith}
 use Rattle.commands.specs.Commands.{Said}
 use Rattle.script.specs.Scripts.{rows_of}
 use Rattle.script.proofs.Taking.{dimension_passes, dimension_refused, named_first, neither, price_on, reached_on, rows_on, stage_on, started_on}

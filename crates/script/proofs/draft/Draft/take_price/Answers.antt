@@ -1,9 +1,8 @@
-use Rattle.std.proofs.Common.{◌≡◌, List, [], ◌∷◌, ◌++◌, get_or, sym, refl, ap, ◌∙◌, subst, inl, inr, append-nil, arith, w64, SFits, to_z, rules}
+use Rattle.std.proofs.Common.{get_or, sym, refl, ◌∙◌, inl, append-nil, arith, w64, SFits, rules}
 use Rattle.commands.specs.Commands.{Said}
 use Rattle.script.specs.Scripts.{rows_of}
-use Rattle.std.proofs.lemmas.List.{length-set, take_rest}
+use Rattle.std.proofs.lemmas.List.{length-set}
 use Rattle.std.proofs.lemmas.Int.{to_z-of_z}
-use Rattle.std.specs.Int.Digits.{number_from_digits}
 use Rattle.script.proofs.Taking.{named_on, price_beyond, price_passes, prices_more, price_value, reached_on, rows_on, stage_on, started_on}
 use Rattle.script.proofs.draft.Draft.take_price.Goals as goal
 

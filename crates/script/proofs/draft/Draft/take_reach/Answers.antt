@@ -1,4 +1,4 @@
-use Rattle.std.proofs.Common.{◌≡◌, List, [], ◌∷◌, ◌++◌, sym, refl, ap, ◌∙◌, subst, append-nil, arith}
+use Rattle.std.proofs.Common.{◌≡◌, sym, refl, ◌∙◌, append-nil, arith}
 use Rattle.commands.specs.Commands.{Said}
 use Rattle.script.specs.Scripts.{rows_of}
 use Rattle.std.specs.Int.Digits.{number_from_digits}

@@ -1,7 +1,5 @@
-use Rattle.std.proofs.Common.{◌≡◌, ℕ, List, [], ◌∷◌, ◌++◌, sym, refl, ap, ◌∙◌, subst, append-nil, arith}
+use Rattle.std.proofs.Common.{◌∙◌, arith}
 use Rattle.commands.specs.Commands.{Said}
-use Rattle.script.specs.Scripts.{rows_of}
-use Rattle.rows.specs.Packed.{ClearFrom}
 use Rattle.std.proofs.lemmas.List.{length-set}
 use Rattle.script.proofs.Taking.{clear_at, count_is, listed_more, named_on, neither, not_clear_at, price_on, reached_on, row_beyond, row_full, row_passes, stage_on, started_on}
 use Rattle.script.proofs.draft.Draft.take_row.Goals as goal

@@ -1,7 +1,6 @@
-use Rattle.std.proofs.Common.{◌≡◌, ℕ, List, [], ◌∷◌, ◌++◌, replicate, sym, refl, ap, ◌∙◌, subst, append-nil, arith}
+use Rattle.std.proofs.Common.{◌≡◌, replicate, sym, refl, ◌∙◌, append-nil, arith}
 use Rattle.commands.specs.Commands.{Said}
 use Rattle.script.specs.Scripts.{rows_of}
-use Rattle.rows.specs.Packed.{ClearFrom}
 use Rattle.script.proofs.Taking.{clear_at, last_new, named_on, neither, not_clear_at, price_on, reached_on, rows_on, stage_on, start_beyond, start_passes}
 use Rattle.script.proofs.draft.Draft.take_start.Goals as goal
 

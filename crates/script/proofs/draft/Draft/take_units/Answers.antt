@@ -1,4 +1,4 @@
-use Rattle.std.proofs.Common.{◌≡◌, ℕ, List, [], ◌∷◌, ◌++◌, get_or, is_some as option_is_some, sym, refl, ap, ◌∙◌, subst, inl, inr, append-nil, arith, w64, SFits, rules}
+use Rattle.std.proofs.Common.{◌≡◌, ℕ, get_or, is_some as option_is_some, sym, refl, ap, ◌∙◌, inr, append-nil, arith, w64, SFits, rules}
 use Rattle.commands.specs.Commands.{Said}
 use Rattle.script.specs.Scripts.{rows_of}
 use Rattle.std.proofs.lemmas.List.{length-set}
