@@ -1,6 +1,6 @@
 -- What is written reads back, and what reads whole is what would be written: one command, and a run of them.
 use Rattle.std.proofs.Common.{◌≡◌, ℕ, suc, ◌+◌, ◌-◌, ◌<◌, ◌≤◌, true, List, [], ◌∷◌, ◌++◌, map, length, get_or, take, drop, is_some, Some, None, Ok, Err, Option, sym, refl, ap, ◌∙◌, subst, arith, length-append, length-drop, take-add}
-use Rattle.std.specs.List.{flat_map, AllByRecursion as All}
+use Rattle.std.specs.List.{flat_map, AllByRecursion}
 use Rattle.std.proofs.lemmas.List.{append_assoc, append-nil, drop_at, drop_more, get_or_at, length-take-le, take_at}
 use Rattle.rows.specs.Refusals.{Passes}
 use Rattle.rows.proofs.Checks.{not_both}
@@ -90,7 +90,7 @@ module _ (s : List ℕ) (a b : ℕ) (p : ℕ × Command) (h : Next s a (Ok (Some
   would_write u v (Err f) (x, y) l =
       absurd (not_both (write_checks (said p.1) (length u)) f ((λ i p q. q.1 p), ((λ i p q. q.1 p), tt)) (whole, (omega (arith, ap length part_is), tt)) x)
 
-writes_back_from : (s : List ℕ) (ds : List Command) (a b : ℕ) → Readings s a ds b → All Whole (map said ds) × (take a s ++ flat_map bytes (map said ds) ≡ take b s)
+writes_back_from : (s : List ℕ) (ds : List Command) (a b : ℕ) → Readings s a ds b → AllByRecursion Whole (map said ds) × (take a s ++ flat_map bytes (map said ds) ≡ take b s)
 writes_back_from s [] a b e = (tt, append-nil (take a s) ∙ ap (λ (k : ℕ). take k s) e)
 writes_back_from s (d ∷ ds) a b (m, (h, t)) =
     let r = writes_back_from s ds m b t in
@@ -115,7 +115,7 @@ ends s a b (Ok None) e h = tt
 ends s a b (Ok (Some p)) e h = omega (arith, h.0)
 ends s a b (Err f) e h = omega (arith, h.0)
 
-reads_back_from : (cs : List Said) → All Whole cs → (s pre : List ℕ) (a : ℕ) → s ≡ pre ++ flat_map bytes cs → length pre ≡ a →
+reads_back_from : (cs : List Said) → AllByRecursion Whole cs → (s pre : List ℕ) (a : ℕ) → s ≡ pre ++ flat_map bytes cs → length pre ≡ a →
     (ds : List Command) (b : ℕ) (g : Given) (e : ℕ) → Readings s a ds b → Next s b g e → (more : List Said) × ((cs ≡ map said ds ++ more) × Comes more g)
 reads_back_from [] w s pre a q l [] b g e r h =
     ([], (refl, ends s b e g (sym r ∙ (sym l ∙ ap length (sym (q ∙ append-nil pre)))) h))

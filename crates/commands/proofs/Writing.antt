@@ -1,7 +1,7 @@
 -- Commands written one after the other: what stands after the first i of a run, and one more.
 use Rattle.std.proofs.Common.{◌≡◌, ℕ, ◌+◌, ◌-◌, ◌<◌, ◌≤◌, List, [], ◌∷◌, ◌++◌, map, length, get_or, take, drop, sym, refl, ap, ◌∙◌, subst, ap₂, arith, length-append, length-drop}
 use borrow.Rule.Slice.PartMut.{put_mid}
-use Rattle.std.specs.List.{flat_map, AllByRecursion as All}
+use Rattle.std.specs.List.{flat_map, AllByRecursion}
 use Rattle.std.proofs.ByRecursion.{All-push, All-take}
 use Rattle.std.proofs.lemmas.List.Edits.{paste_all}
 use Rattle.std.proofs.lemmas.Slice.{put_mid-paste}
@@ -45,18 +45,18 @@ pub rest_short : (ds : List Command) (i room rest : ℕ) (d : Command) (c : Said
     length (flat_map bytes (map said ds)) ≤ room → ⊥
 rest_short ds i room rest d c e h l f r = omega (arith, ap (λ (x : Said). length x.1) e, upto_le ds (i + 1), length_more ds i d h)
 
-last_of : (cs : List Said) (c : Said) → All Whole (cs ++ c ∷ []) → Whole c
+last_of : (cs : List Said) (c : Said) → AllByRecursion Whole (cs ++ c ∷ []) → Whole c
 last_of [] c w = w.0
 last_of (x ∷ cs) c w = last_of cs c w.1
 
-pub whole_at : (ds : List Command) (i : ℕ) (d : Command) → i < length ds → All Whole (map said ds) → Whole (said (get_or ds i d))
+pub whole_at : (ds : List Command) (i : ℕ) (d : Command) → i < length ds → AllByRecursion Whole (map said ds) → Whole (said (get_or ds i d))
 whole_at ds i d h w =
-    let t : All Whole (map said (take i ds) ++ said (get_or ds i d) ∷ []) =
-    subst (All Whole) (take-map said (i + 1) ds ∙ said_more ds i d h) (All-take Whole (i + 1) (map said ds) w) in
+    let t : AllByRecursion Whole (map said (take i ds) ++ said (get_or ds i d) ∷ []) =
+    subst (AllByRecursion Whole) (take-map said (i + 1) ds ∙ said_more ds i d h) (All-take Whole (i + 1) (map said ds) w) in
     last_of (map said (take i ds)) (said (get_or ds i d)) t
 
-pub whole_more : (ds : List Command) (i : ℕ) (d : Command) → i < length ds → All Whole (map said (take i ds)) → Whole (said (get_or ds i d)) → All Whole (map said (take (i + 1) ds))
-whole_more ds i d h a w = subst (All Whole) (sym (said_more ds i d h)) (All-push Whole (map said (take i ds)) (said (get_or ds i d)) a w)
+pub whole_more : (ds : List Command) (i : ℕ) (d : Command) → i < length ds → AllByRecursion Whole (map said (take i ds)) → Whole (said (get_or ds i d)) → AllByRecursion Whole (map said (take (i + 1) ds))
+whole_more ds i d h a w = subst (AllByRecursion Whole) (sym (said_more ds i d h)) (All-push Whole (map said (take i ds)) (said (get_or ds i d)) a w)
 
 -- a command written over a part of the buffer, from the index at on
 pub put_part : (u w v : List ℕ) (at n : ℕ) → at + n ≤ length u → n ≡ length w → v ≡ w ++ drop n (take (length u - at) (drop at u)) →

@@ -1,7 +1,7 @@
 -- Reading and writing: one command at a time, and whole runs of them; and that each undoes the other.
 -- s is a script and a a place in it, b the place after a reading; u is a buffer before a writing and v after it.
 use Rattle.std.specs.Prelude.{◌≡◌, ℕ, ◌+◌, ◌<◌, ◌≤◌, true, List, [], ◌∷◌, ◌++◌, map, length, take, drop, is_some, Some, None, Ok, Err, Option, Result, slice_index, slice_range}
-use Rattle.std.specs.List.{flat_map, AllByRecursion as All}
+use Rattle.std.specs.List.{flat_map, AllByRecursion}
 use Rattle.rows.specs.Refusals.{Check, ask, ask_here, Passes, RefusedBy}
 use Rattle.rows.specs.declared.refusals.Fault.TheVariants.{ShortBuffer, UnknownLetter, Width}
 use Rattle.rows.specs.declared.refusals.Refusal.{Refusal}
@@ -47,7 +47,7 @@ Put c u (Err e) v = RefusedBy (write_checks c (length u)) e × (v ≡ u)
 
 -- writing the commands cs one after the other: all of them or none
 abbrev pub run_checks : List Said → ℕ → List Check
-run_checks cs m = ask Width (All Whole cs) ∷ ask ShortBuffer (length (flat_map bytes cs) ≤ m) ∷ []
+run_checks cs m = ask Width (AllByRecursion Whole cs) ∷ ask ShortBuffer (length (flat_map bytes cs) ≤ m) ∷ []
 
 abbrev pub PutRun : List Said → List ℕ → Result ℕ Refusal → List ℕ → Type 0
 PutRun cs u (Ok n) v = Passes (run_checks cs (length u)) × (n ≡ length (flat_map bytes cs)) × (v ≡ flat_map bytes cs ++ drop n u)
@@ -75,7 +75,7 @@ ReadsBack s =
 -- and of a run: where a script is the bytes of commands, whatever was read so far are the first of them, and the next reading gives the next, or none after the last
 abbrev pub ReadsBackRun : List ℕ → Type 0
 ReadsBackRun s =
-    (cs : List Said) → All Whole cs → s ≡ flat_map bytes cs → (ds : List Command) (b : ℕ) (r : Given) (e : ℕ) → Readings s 0 ds b → Next s b r e →
+    (cs : List Said) → AllByRecursion Whole cs → s ≡ flat_map bytes cs → (ds : List Command) (b : ℕ) (r : Given) (e : ℕ) → Readings s 0 ds b → Next s b r e →
     (more : List Said) × ((cs ≡ map said ds ++ more) × Comes more r)
 
 -- what reads whole is what would be written: writing the command to any buffer with room for it gives the bytes that were read
@@ -89,7 +89,7 @@ WritesBack s a (Err e) b = Unit {0}
 
 -- and of a run: the bytes up to where readings led are the bytes of the commands that they gave, each of its letter's width
 abbrev pub WritesBackRun : List ℕ → Type 0
-WritesBackRun s = (ds : List Command) (b : ℕ) → Readings s 0 ds b → All Whole (map said ds) × (flat_map bytes (map said ds) ≡ take b s)
+WritesBackRun s = (ds : List Command) (b : ℕ) → Readings s 0 ds b → AllByRecursion Whole (map said ds) × (flat_map bytes (map said ds) ≡ take b s)
 
 -- the laws of reading and writing, for a script
 pub record ReadingLaws (s : List ℕ) : Type 0 where

@@ -1,5 +1,5 @@
 ghost use Rattle.std.specs.Prelude.{◌≡◌, ℕ, ◌+◌, ◌≤◌, ◌++◌, map, length, take, drop, Decides};
-ghost use Rattle.std.specs.List.{flat_map, AllByRecursion as All};
+ghost use Rattle.std.specs.List.{flat_map, AllByRecursion};
 ghost use Rattle.commands.specs.Commands.{Whole, bytes as command_bytes, said};
 ghost use Rattle.commands.specs.Reading.{Put, PutRun};
 
@@ -35,7 +35,7 @@ impl Command<'_> {
 
 /// Whether every command has the width that its letter asks for.
 fn all_whole(commands: &[Command<'_>]) -> bool
-    ensures { Decides result (All Whole (map said commands.now)) }
+    ensures { Decides result (AllByRecursion Whole (map said commands.now)) }
 {
     for i in 0..commands.len() {
         let command = commands[i];
@@ -78,7 +78,7 @@ fn put(command: &Command<'_>, buffer: &mut [u8], at: usize) -> usize
 
 /// Writes commands that fit, one after the other, and gives their length.
 fn put_all(commands: &[Command<'_>], buffer: &mut [u8]) -> usize
-    requires whole { All Whole (map said commands.now) }
+    requires whole { AllByRecursion Whole (map said commands.now) }
     requires room { length (flat_map command_bytes (map said commands.now)) ≤ length buffer.old }
     ensures long { result ≡ length (flat_map command_bytes (map said commands.now)) }
     ensures writes { buffer.new ≡ flat_map command_bytes (map said commands.now) ++ drop result buffer.old }

@@ -1,6 +1,6 @@
 -- The coordinates that the first entries of a renumbering name, as a row of marks: in the end each is named.
 use Rattle.std.proofs.Common.{◌≡◌, ℕ, zero, suc, ◌<◌, ◌≤◌, List, [], ◌∷◌, length, get_or, set, replicate, sum_by, sym, refl, ap, ◌∙◌, ap₂, ⊎_elim, arith}
-use Rattle.std.specs.List.{AllByRecursion as All}
+use Rattle.std.specs.List.{AllByRecursion}
 use Rattle.std.proofs.lemmas.List.{length-set, length-replicate, get_or-replicate, get_or-set_other}
 use Rattle.std.proofs.ByRecursion.{All-set, sum_by_le}
 use Rattle.std.proofs.lemmas.List.Sums.{sum_by-cons, sum_by-set}
@@ -13,7 +13,7 @@ Bit b = b ≤ 1
 abbrev count : List ℕ → ℕ
 count xs = sum_by (λ x. x) xs
 
-zero_marks : (n : ℕ) → All Bit (replicate n 0)
+zero_marks : (n : ℕ) → AllByRecursion Bit (replicate n 0)
 zero_marks zero = tt
 zero_marks (suc n) = (omega arith, zero_marks n)
 
@@ -27,7 +27,7 @@ zero_at (suc n) zero = refl
 zero_at (suc n) (suc k) = zero_at n k
 
 -- a row of marks with as many ones as entries
-all_ones : (xs : List ℕ) → All Bit xs → count xs ≡ length xs → xs ≡ replicate (length xs) 1
+all_ones : (xs : List ℕ) → AllByRecursion Bit xs → count xs ≡ length xs → xs ≡ replicate (length xs) 1
 all_ones [] a e = refl
 all_ones (x ∷ xs) a e =
     let c = sum_by-cons (λ y. y) x xs in
@@ -45,7 +45,7 @@ module _ (n : ℕ) (p : List ℕ) where
   visited_length zero = length-replicate n 0
   visited_length (suc i) = length-set (visited i) (get_or p i 0) 1 ∙ visited_length i
 
-  visited_marks : (i : ℕ) → All Bit (visited i)
+  visited_marks : (i : ℕ) → AllByRecursion Bit (visited i)
   visited_marks zero = zero_marks n
   visited_marks (suc i) = All-set Bit (visited i) (get_or p i 0) 1 (omega arith) (visited_marks i)
 

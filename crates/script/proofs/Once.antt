@@ -1,7 +1,7 @@
 -- A script is settled: its bytes are commands in one way, so it is refused once, or describes one problem.
 use Rattle.std.proofs.Common.{◌≡◌, ℕ, ◌⊎◌, List, [], ◌∷◌, ◌++◌, map, length, take, drop, replicate, pos, Some, None, Option, sym, refl, ap, ◌∙◌, subst, inl, inr, ⊎_elim, arith, length-append}
 use Rattle.std.specs.Int.Digits.{number_from_digits}
-use Rattle.std.specs.List.{flat_map, AllByRecursion as All}
+use Rattle.std.specs.List.{flat_map, AllByRecursion}
 use Rattle.std.proofs.lemmas.List.{append_assoc, append-nil, drop_at, length-take-le, map_push, take-append-drop, take_at}
 use Rattle.rows.specs.Refusals.{Passes, number as numbered}
 use Rattle.rows.specs.declared.refusals.Refusal.{Refusal}
@@ -32,7 +32,7 @@ in_line_more : (c d : Said) (cs ds : List Said) → c ≡ d → InLine cs ds →
 in_line_more c d cs ds s (inl (e, q)) = inl (e, (cc))
 in_line_more c d cs ds s (inr (e, q)) = inr (e, (cc))
 
-in_line : (cs ds : List Said) (r t : List ℕ) → All Whole cs → All Whole ds → flat_map bytes cs ++ r ≡ flat_map bytes ds ++ t → InLine cs ds
+in_line : (cs ds : List Said) (r t : List ℕ) → AllByRecursion Whole cs → AllByRecursion Whole ds → flat_map bytes cs ++ r ≡ flat_map bytes ds ++ t → InLine cs ds
 in_line [] ds r t a b q = inl (ds, refl)
 in_line (c ∷ cs) [] r t a b q = inr (c ∷ cs, refl)
 in_line (c ∷ cs) (d ∷ ds) r t (w, a) (v, b) q =
@@ -42,7 +42,7 @@ in_line (c ∷ cs) (d ∷ ds) r t (w, a) (v, b) q =
     let z = split_same c.1 d.1 _ _ (one_width c.0 d.0 _ _ h w v) l in
     in_line_more c d cs ds (pair_same c.0 d.0 c.1 d.1 h z.0) (in_line cs ds r t a b z.1)
 
-wholes : (before cs : List Said) → Begins (before ++ cs) → All Whole cs
+wholes : (before cs : List Said) → Begins (before ++ cs) → AllByRecursion Whole cs
 wholes before [] h = tt
 wholes before (c ∷ cs) h = ((h before cs c refl).0, wholes (before ++ c ∷ []) cs (subst Begins (sym (append_assoc before (c ∷ []) cs)) h))
 
@@ -155,12 +155,12 @@ never_both s p e (h, (cs, u, d, m)) (inr (i, (a, ds, v, q))) =
     ⊎_elim (λ x. end (longer s a cs ds x.0 u v x.1)) (λ x. end (sym (not_before s a (length s) e ds cs x.0 v u x.1 q))) (lined s (length s) a cs ds u v)
 
 -- the last command of a kind is one
-all_at : (P : Said → Type 0) (b a : List Said) (c : Said) → All P (b ++ c ∷ a) → P c
+all_at : (P : Said → Type 0) (b a : List Said) (c : Said) → AllByRecursion P (b ++ c ∷ a) → P c
 all_at P [] a c (h, k) = h
 all_at P (x ∷ b) a c (h, k) = all_at P b a c k
 
-all_of : (P : Said → Type 0) (cs b a : List Said) (c : Said) → cs ≡ b ++ c ∷ a → All P cs → P c
-all_of P cs b a c e h = all_at P b a c (subst (All P) e h)
+all_of : (P : Said → Type 0) (cs b a : List Said) (c : Said) → cs ≡ b ++ c ∷ a → AllByRecursion P cs → P c
+all_of P cs b a c e h = all_at P b a c (subst (AllByRecursion P) e h)
 
 abbrev Apart : Said → List Said → Said → List Said → Type 0
 Apart c a d e = (c ≡ d) ⊎ (((b : List Said) × (f : List Said) × (a ≡ b ++ d ∷ f)) ⊎ ((b : List Said) × (f : List Said) × (e ≡ b ++ c ∷ f)))

@@ -6,19 +6,19 @@ use Rattle.script.specs.Stages.{next, run}
 use Rattle.script.specs.declared.draft.Stage.TheVariants.{Dimension, Done, Ending, Kind, Members, Prices}
 use Rattle.script.specs.declared.draft.Stage.{Stage}
 use Rattle.std.proofs.lemmas.Bool.{cases_eq, eq-eqb, ne_eqb}
-use Rattle.std.specs.List.{AllByRecursion as All}
+use Rattle.std.specs.List.{AllByRecursion}
 
 pub run_append : (s : Option Stage) (u v : List ℕ) → run s (u ++ v) ≡ run (run s u) v
 run_append None u v = refl
 run_append (Some s) [] v = refl
 run_append (Some s) (x ∷ u) v = run_append (next s x) u v
 
-prices_run : (qs : List ℕ) → All (λ x. (x ≡ 67) ⊎ (x ≡ 89)) qs → run (Some Prices) (qs ++ 83 ∷ 90 ∷ []) ≡ Some Done
+prices_run : (qs : List ℕ) → AllByRecursion (λ x. (x ≡ 67) ⊎ (x ≡ 89)) qs → run (Some Prices) (qs ++ 83 ∷ 90 ∷ []) ≡ Some Done
 prices_run [] a = refl
 prices_run (x ∷ qs) (inl e, a) = rw e (prices_run qs a)
 prices_run (x ∷ qs) (inr e, a) = rw e (prices_run qs a)
 
-members_run : (ps qs : List ℕ) → All (λ x. x ≡ 80) ps → All (λ x. (x ≡ 67) ⊎ (x ≡ 89)) qs → run (Some Members) (ps ++ (qs ++ 83 ∷ 90 ∷ [])) ≡ Some Done
+members_run : (ps qs : List ℕ) → AllByRecursion (λ x. x ≡ 80) ps → AllByRecursion (λ x. (x ≡ 67) ⊎ (x ≡ 89)) qs → run (Some Members) (ps ++ (qs ++ 83 ∷ 90 ∷ [])) ≡ Some Done
 members_run [] [] a b = refl
 members_run [] (x ∷ qs) a (inl e, b) = rw e (prices_run qs b)
 members_run [] (x ∷ qs) a (inr e, b) = rw e (prices_run qs b)
@@ -83,7 +83,7 @@ back_ending (x ∷ w) e =
     rw (s.0, r)
 
 abbrev Priced : List ℕ → Type 0
-Priced w = (qs : List ℕ) × All (λ x. (x ≡ 67) ⊎ (x ≡ 89)) qs × (w ≡ qs ++ 83 ∷ 90 ∷ [])
+Priced w = (qs : List ℕ) × AllByRecursion (λ x. (x ≡ 67) ⊎ (x ≡ 89)) qs × (w ≡ qs ++ 83 ∷ 90 ∷ [])
 
 mutual_prices : (x : ℕ) (w : List ℕ) (t : Stage) → run (Some t) w ≡ Some Done → (run (Some Prices) w ≡ Some Done → Priced w) → (((x ≡ 67) ⊎ (x ≡ 89)) × (t ≡ Prices)) ⊎ ((x ≡ 83) × (t ≡ Ending)) → Priced (x ∷ w)
 mutual_prices x w t e more (inl (p, q)) =
@@ -100,7 +100,7 @@ back_prices (x ∷ w) e =
     mutual_prices x w l.0 (onward (next Prices x) w l.0 e l.1) (back_prices w) (step_in Prices x l.0 l.1)
 
 abbrev Listing : List ℕ → Type 0
-Listing w = (ps qs : List ℕ) × All (λ x. x ≡ 80) ps × All (λ x. (x ≡ 67) ⊎ (x ≡ 89)) qs × (w ≡ ps ++ (qs ++ 83 ∷ 90 ∷ []))
+Listing w = (ps qs : List ℕ) × AllByRecursion (λ x. x ≡ 80) ps × AllByRecursion (λ x. (x ≡ 67) ⊎ (x ≡ 89)) qs × (w ≡ ps ++ (qs ++ 83 ∷ 90 ∷ []))
 
 mutual_members : (x : ℕ) (w : List ℕ) (t : Stage) → run (Some t) w ≡ Some Done → (run (Some Members) w ≡ Some Done → Listing w) → Step Members x t → Listing (x ∷ w)
 mutual_members x w t e more (inl (p, q)) =

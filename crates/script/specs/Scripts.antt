@@ -4,7 +4,7 @@ use Rattle.std.specs.Prelude.{◌≡◌, ℕ, ◌*◌, ◌^◌, ◌<◌, ◌≤�
 use Rattle.std.specs.Int.{w64}
 use Rattle.std.proofs.Common.{to_z}
 use Rattle.std.specs.Int.Digits.{number_from_digits}
-use Rattle.std.specs.List.{flat_map, AllByRecursion as All}
+use Rattle.std.specs.List.{flat_map, AllByRecursion}
 use Rattle.rows.specs.Classes.{class_of, days}
 use Rattle.rows.specs.Packed.{ClearFrom}
 use Rattle.rows.specs.Refusals.{Check, Passes, RefusedBy, ask_here, number as numbered}
@@ -21,7 +21,7 @@ letter c = c.0
 -- the letters of a whole script: N, L, any P, any C and Y, S, Z
 abbrev pub InOrder : List ℕ → Type 0
 InOrder w =
-    (ps qs : List ℕ) × All (λ x. x ≡ 80) ps × All (λ x. (x ≡ 67) ⊎ (x ≡ 89)) qs × (w ≡ 78 ∷ 76 ∷ (ps ++ (qs ++ 83 ∷ 90 ∷ [])))
+    (ps qs : List ℕ) × AllByRecursion (λ x. x ≡ 80) ps × AllByRecursion (λ x. (x ≡ 67) ⊎ (x ≡ 89)) qs × (w ≡ 78 ∷ 76 ∷ (ps ++ (qs ++ 83 ∷ 90 ∷ [])))
 
 -- some whole script begins with the letters of cs and then that of c
 abbrev pub Continues : List Said → Said → Type 0
@@ -85,8 +85,8 @@ Refuses s e =
 -- v is what the last of the commands cs of which P holds gives, and d where there is none
 abbrev pub Last : {V : Type 0} → (Said → Type 0) → (Said → V) → V → List Said → V → Type 0
 Last P gives d cs v =
-    (All (λ c. P c → ⊥) cs × (v ≡ d))
-    ⊎ ((before : List Said) × (after : List Said) × (c : Said) × (cs ≡ before ++ c ∷ after) × P c × All (λ e. P e → ⊥) after × (v ≡ gives c))
+    (AllByRecursion (λ c. P c → ⊥) cs × (v ≡ d))
+    ⊎ ((before : List Said) × (after : List Said) × (c : Said) × (cs ≡ before ++ c ∷ after) × P c × AllByRecursion (λ e. P e → ⊥) after × (v ≡ gives c))
 
 -- c prices coordinate i
 abbrev pub Prices : ℕ → Said → Type 0

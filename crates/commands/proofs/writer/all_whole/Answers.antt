@@ -1,5 +1,5 @@
 use Rattle.std.proofs.Common.{◌≡◌, ℕ, List, map, sym, refl, ◌∙◌, subst, arith}
-use Rattle.std.specs.List.{AllByRecursion as All}
+use Rattle.std.specs.List.{AllByRecursion}
 use Rattle.std.proofs.lemmas.List.{take_all}
 use Rattle.commands.specs.declared.command.Command.{Command}
 use Rattle.commands.specs.Commands.{Whole, said}
@@ -19,4 +19,4 @@ loop-i-preserved c = whole_more c.args.commands.now c.loop-i.i _ c.loop-i-test.t
 pub returns : goal.returns
 returns c =
     let e = take_all c.loop-i.i c.args.commands.now (omega arith) in
-    ((λ _. subst (λ (ds : List Command). All Whole (map said ds)) e c.loop-i.invariant), λ _. refl)
+    ((λ _. subst (λ (ds : List Command). AllByRecursion Whole (map said ds)) e c.loop-i.invariant), λ _. refl)
