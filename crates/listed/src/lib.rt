@@ -7,7 +7,7 @@ ghost use Rattle.rows.specs.Prices.{price};
 ghost use Rattle.rows.specs.Refusals.{Passes, RefusedBy};
 ghost use Rattle.augmenter.specs.Questions.{Answered};
 ghost use Rattle.listed.specs.Lists.{ListedIn, ClearRows, StrayRow, making_checks};
-ghost use Rattle.std.proofs.Common.{rules, arith};
+ghost use Rattle.std.proofs.Common.{rules};
 
 use augmenter::answers::Answer;
 use augmenter::{Augmenter, shared_checks};
@@ -133,11 +133,11 @@ impl Augmenter for Listed {
 
     ghost Member = { λ a x. ListedIn a.n (take a.count a.rows) x };
 
-    ghost dim_fits = { first_of (Prim.search rules, Prim.grind (arith, Self.row.coded.inj)) };
+    ghost dim_fits = { Prim.search rules };
 
-    ghost reach_fits = { first_of (Prim.search rules, Prim.grind (arith, Self.row.coded.inj)) };
+    ghost reach_fits = { Prim.search rules };
 
-    ghost member_is_point = { first_of (Prim.search rules, Prim.grind (arith, Self.row.coded.inj)) };
+    ghost member_is_point = { Prim.search rules };
 
     fn letter() -> u8 {
         Self::KIND

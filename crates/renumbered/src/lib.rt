@@ -5,7 +5,7 @@ ghost use Rattle.std.specs.Prelude.{◌≡◌, ℕ, ◌<◌, ◌≤◌, length, 
 ghost use Rattle.rows.specs.Refusals.{Passes, RefusedBy};
 ghost use Rattle.augmenter.specs.Questions.{Better, Screened, shared_checks};
 ghost use Rattle.renumbered.specs.Renumberings.{NewEntry, AllNew, BadEntry, Renumbers, Moves, MemberAbove, BroughtBack, making_checks};
-ghost use Rattle.std.proofs.Common.{rules, arith};
+ghost use Rattle.std.proofs.Common.{rules};
 
 use augmenter::answers::Answer;
 use augmenter::{Augmenter, shared_checks};
@@ -185,11 +185,11 @@ impl<A: Augmenter> Augmenter for Renumbered<A> {
 
     ghost Member = { λ s x. MemberAbove (A.Augmenter.dim s.below) (A.Augmenter.Member s.below) (take s.count s.numbers) x };
 
-    ghost dim_fits = { first_of (Prim.search rules, Prim.grind (arith, Self.row.coded.inj)) };
+    ghost dim_fits = { Prim.search rules };
 
-    ghost reach_fits = { first_of (Prim.search rules, Prim.grind (arith, Self.row.coded.inj)) };
+    ghost reach_fits = { Prim.search rules };
 
-    ghost member_is_point = { first_of (Prim.search rules, Prim.grind (arith, Self.row.coded.inj)) };
+    ghost member_is_point = { Prim.search rules };
 
     fn letter() -> u8 {
         A::letter()

@@ -9,7 +9,7 @@ ghost use Rattle.rows.specs.Prices.{weight};
 ghost use Rattle.rows.specs.Refusals.{Passes, RefusedBy};
 ghost use Rattle.augmenter.specs.Questions.{Screened};
 ghost use Rattle.turned.specs.Turns.{TurnedIn, TurnedBack, xor, turn, turned_prices, making_checks};
-ghost use Rattle.std.proofs.Common.{rules, arith};
+ghost use Rattle.std.proofs.Common.{rules};
 
 use augmenter::answers::Answer;
 use augmenter::{Augmenter, shared_checks};
@@ -122,11 +122,11 @@ impl<A: Augmenter> Augmenter for Turned<A> {
 
     ghost Member = { λ t x. TurnedIn (A.Augmenter.dim t.below) (A.Augmenter.Member t.below) (take (A.Augmenter.dim t.below) t.marks) x };
 
-    ghost dim_fits = { first_of (Prim.search rules, Prim.grind (arith, Self.row.coded.inj)) };
+    ghost dim_fits = { Prim.search rules };
 
-    ghost reach_fits = { first_of (Prim.search rules, Prim.grind (arith, Self.row.coded.inj)) };
+    ghost reach_fits = { Prim.search rules };
 
-    ghost member_is_point = { first_of (Prim.search rules, Prim.grind (arith, Self.row.coded.inj)) };
+    ghost member_is_point = { Prim.search rules };
 
     fn letter() -> u8 {
         A::letter()
