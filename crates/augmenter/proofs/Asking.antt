@@ -4,7 +4,8 @@ use Rattle.rows.specs.Refusals.{Passes, RefusedBy}
 use Rattle.rows.specs.declared.refusals.Fault.TheVariants.{NotMember}
 use Rattle.rows.specs.declared.refusals.Refusal.{Refusal}
 use Rattle.rows.proofs.Checks.{Excludes, not_both}
-use Rattle.rows.proofs.Relays.{marks_good, relayed}
+use Rattle.rows.proofs.Marks.{marks_good}
+use Rattle.rows.proofs.Relays.{relayed}
 use Rattle.augmenter.specs.Questions.{shared_checks, checks}
 
 -- the shared checks at a dimension and a reach that were asked for

@@ -1,6 +1,6 @@
 -- Equal views, and rows read back from the arrays that keep them.
-use Rattle.std.proofs.Common.{◌≡◌, ℕ, ◌≤◌, List, ◌++◌, length, take, replicate, ℤ, ap, ◌∙◌, subst}
-use Rattle.rows.proofs.Padding.{take_padded}
+use Rattle.std.proofs.Common.{◌≡◌, ℕ, ◌≤◌, List, ◌++◌, length, take, replicate, ℤ}
+use Rattle.rows.proofs.Padding.{kept_row}
 use Rattle.job.specs.declared.parts.State.{State}
 use Rattle.job.specs.declared.parts.Totals.{Totals}
 use Rattle.job.specs.declared.parts.Line.{Line}
@@ -16,6 +16,4 @@ same_view m m' s s' x x' p p' t t' l l' k k' em es ex ep et el ek = cc
 
 -- a row of n entries comes back from the array that it was put into
 pub row_back : {X : Type 0} (n : ℕ) (xs p : List X) (f : X) → n ≤ 128 → length xs ≡ n → p ≡ take 128 (xs ++ replicate 128 f) → take n p ≡ xs
-row_back {X} n xs p f h l e =
-    let P : ℕ → Type 0 = λ m. m ≤ 128 → take m p ≡ xs in
-    subst P l (λ k. ap (λ (q : List X). take (length xs) q) e ∙ take_padded 128 xs f k) h
+row_back n xs p f h l e = kept_row 128 n f xs p l h e

@@ -3,13 +3,13 @@ use Rattle.std.proofs.Common.{◌≡◌, ℕ, zero, suc, ◌+◌, ◌*◌, ◌^�
 use Rattle.std.proofs.lemmas.List.{length-replicate}
 use Rattle.std.proofs.lemmas.Int.{ints}
 use Rattle.std.proofs.lemmas.Bool.{cases_eq}
-use Rattle.rows.specs.Points.{Point, Marks, BadMark}
+use Rattle.rows.specs.Points.{Point}
 use Rattle.rows.specs.Prices.{price, weight, ones, planes, row_at, bits, Under}
 use Rattle.rows.specs.Refusals.{RefusedBy}
 use Rattle.rows.specs.declared.refusals.Refusal.{Refusal}
-use Rattle.rows.proofs.Checks.{not_both}
 use Rattle.rows.proofs.Planes.{next_plane, full_prices, at_zero, zeros_above, under_planes, under_largest, top_light, weight_at, length_at, few_planes, few_ones, bits_few, ones_below_suc, ones_below_all, ones_below_zero, remainders_suc}
 use Rattle.augmenter.specs.Questions.{checks, Cheapest, Cheaper}
+use Rattle.augmenter.proofs.Asking.{not_refused}
 use Rattle.job.specs.declared.parts.State.{State}
 use Rattle.job.specs.declared.parts.State.TheVariants.{NotBegun, Open, Finished}
 use Rattle.job.specs.declared.parts.Step.{Step}
@@ -129,16 +129,10 @@ stands_improved n R M ps x o k j small len s h =
 
 module _ (n R : ℕ) (M : List ℕ → Type 0) (small : n ≤ 128) (low : R < 2 ^ 40) (points : (y : List ℕ) → M y → Point n y) where
   -- a sound job's question is never refused
-  marks_good : (x : List ℕ) (i : ℕ) → Marks x → BadMark x i → ⊥
-  marks_good x i m b = let h = m i b.0 in let g = b.1 in omega arith
-
   pub never_refused : (ps : List ℤ) (x : List ℕ) (k : ℕ) (e : Refusal) → length ps ≡ n → M x → weight ps ≤ R → RefusedBy (checks n R M (row_at k ps) x n) e → ⊥
   never_refused ps x k e l m w r =
       let light : weight (row_at k ps) ≤ R = omega (arith, weight_at k ps) in
-      not_both (checks n R M (row_at k ps) x n) e
-      ((λ i p b. b.1 p), (marks_good x, ((λ i p b. b.1 p), ((λ i p b. b.1 p), tt))))
-      ((length_at k ps ∙ l, (points x m).0, refl), ((points x m).1, (light, (m, tt))))
-      r
+      not_refused n R M (row_at k ps) x n e ((length_at k ps ∙ l, (points x m).0, refl), ((points x m).1, (light, tt))) m r
 
   -- a row accepted
   pub accepted_sound : (a : View) (x : List ℕ) (ps : List ℤ) → Sound n R M a → a.totals.rows < 1000 → M x → length ps ≡ n → weight ps ≤ R →

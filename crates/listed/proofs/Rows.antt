@@ -1,18 +1,18 @@
 -- A list of packed rows kept in an array, and the points that its rows pack.
-use Rattle.std.proofs.Common.{◌≡◌, ℕ, ◌<◌, ◌≤◌, List, [], ◌++◌, length, get_or, take, replicate, ℤ, ◌≤ℤ◌, ◌<ℤ◌, sym, ap, ◌∙◌, subst, arith}
+use Rattle.std.proofs.Common.{◌≡◌, ℕ, ◌<◌, ◌≤◌, List, [], ◌++◌, length, get_or, take, replicate, ℤ, ◌≤ℤ◌, ◌<ℤ◌, sym, refl, ap, ◌∙◌, subst, arith}
 use Rattle.std.proofs.lemmas.List.{get_or-take, length-take}
 use Rattle.rows.specs.Packed.{bit_at, unpacked, packed, ClearFrom}
 use Rattle.rows.specs.Points.{Point}
 use Rattle.rows.specs.Prices.{price}
 use Rattle.rows.proofs.Packing.{unpacked_packed, unpacked_point}
-use Rattle.rows.proofs.Padding.{take_padded}
+use Rattle.rows.proofs.Padding.{kept_row}
 use Rattle.augmenter.specs.Questions.{Cheapest, Cheaper, Answered}
 use Rattle.augmenter.specs.declared.answers.Answer.{Answer}
 use Rattle.listed.specs.Lists.{ListedIn, ClearRows}
 
 -- the rows come back
 pub rows_back : (rows p : List (List ℕ)) (f : List ℕ) → length rows ≤ 256 → p ≡ take 256 (rows ++ replicate 256 f) → take (length rows) p ≡ rows
-rows_back rows p f h e = ap (λ (l : List (List ℕ)). take (length rows) l) e ∙ take_padded 256 rows f h
+rows_back rows p f h e = kept_row 256 (length rows) f rows p refl h e
 
 pub rows_clear : (n : ℕ) (rows p : List (List ℕ)) → take (length rows) p ≡ rows → ClearRows n rows →
     (k i : ℕ) → (k < length rows) × (n ≤ i) → bit_at (get_or p k []) i ≡ 0

@@ -8,6 +8,7 @@ use Rattle.rows.specs.Points.{Marks, Point}
 use Rattle.rows.specs.Prices.{price, pays, weight}
 use Rattle.rows.specs.Refusals.{Passes}
 use Rattle.rows.specs.declared.refusals.Refusal.{Refusal}
+use Rattle.rows.proofs.Marks.{marks_rest}
 use Rattle.augmenter.specs.Questions.{shared_checks, checks, Cheapest, Cheaper, Better}
 use Rattle.augmenter.specs.declared.answers.Answer.{Answer}
 use Rattle.augmenter.specs.declared.answers.Answer.TheVariants.{Found, Nothing}
@@ -24,9 +25,6 @@ rest f a s x h = λ i l. h (suc i) (omega arith)
 join : (f a : ℕ) (s x : List ℕ) → Keep f a → Keeps s x → Keeps (f ∷ s) (a ∷ x)
 join f a s x h k zero l = h
 join f a s x h k (suc i) l = k i (omega arith)
-
-tail_marks : (a : ℕ) (x : List ℕ) → Marks (a ∷ x) → Marks x
-tail_marks a x h = λ i l. h (suc i) (omega arith)
 
 -- where two marks agree with the pin, its coordinate tells them apart as much as the given price does
 one_same : (k : ℕ) (p : ℤ) (f a b : ℕ) → Keep f a → Keep f b → pays (asked k p f) a +ℤ pays p b ≡ pays (asked k p f) b +ℤ pays p a
@@ -106,7 +104,7 @@ all_either k (p ∷ ps) (f ∷ s) (a ∷ x) (b ∷ y) c e d m h =
     ⊎_elim
     (λ (r : Keeps s y). inl (join f b s y g r))
     (λ (r : (price A x +ℤ pos k) ≤ℤ (price A y +ℤ pos (weight ps))). let one = one_near k p f a b (h 0 (omega arith)) in inr (omega (arith, ints)))
-    (all_either k ps s x y (omega arith) (omega arith) (omega arith) (tail_marks b y m) (rest f a s x h)))
+    (all_either k ps s x y (omega arith) (omega arith) (omega arith) (marks_rest b y m) (rest f a s x h)))
     (λ (g : (f ≤ 1) × (b ≡ f → ⊥)).
     let one = one_breaks k p f a b (m 0 (omega arith)) (h 0 (omega arith)) g.0 g.1 in
     let near = all_near k ps s x y (omega arith) (omega arith) (rest f a s x h) in

@@ -149,19 +149,19 @@ fn write_question(prices: &[i64], pins: &[u8], out: &mut [i64])
 impl<A: Augmenter> Augmenter for Pinned<A> {
     const KIND: u8 = A::KIND;
 
-    ghost kind = { A.Augmenter.kind };
+    ghost kind = { A.kind };
 
-    ghost dim = { λ t. A.Augmenter.dim t.below };
+    ghost dim = { λ t. A.dim t.below };
 
-    ghost reaches = { λ t. reach_over (A.Augmenter.reaches t.below) (pin_count (take (A.Augmenter.dim t.below) t.pins)) };
+    ghost reaches = { λ t. reach_over (A.reaches t.below) (pin_count (take (A.dim t.below) t.pins)) };
 
-    ghost Member = { λ t x. PinnedIn (A.Augmenter.Member t.below) (take (A.Augmenter.dim t.below) t.pins) x };
+    ghost Member = { λ t x. PinnedIn (A.Member t.below) (take (A.dim t.below) t.pins) x };
 
     ghost dim_fits = { Prim.search rules };
 
     ghost reach_fits = { Prim.search rules };
 
-    ghost member_is_point = { λ a x m. A.Augmenter.member_is_point a.below x m.0 };
+    ghost member_is_point = { λ a x m. A.member_is_point a.below x m.0 };
 
     fn letter() -> u8 {
         A::letter()

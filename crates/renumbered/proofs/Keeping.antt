@@ -1,16 +1,9 @@
 -- A renumbering kept at the start of an array: its entries, and what the array's entries say of it.
-use Rattle.std.proofs.Common.{◌≡◌, ℕ, ◌<◌, ◌≤◌, eqb, List, ◌++◌, length, get_or, take, replicate, Decides, sym, ap, ◌∙◌, subst, arith}
+use Rattle.std.proofs.Common.{◌≡◌, ℕ, ◌<◌, ◌≤◌, eqb, List, length, get_or, take, Decides, sym, ap, ◌∙◌, subst, arith}
 use Rattle.std.proofs.lemmas.List.{length-take, length-take-le, get_or-take}
 use Rattle.std.proofs.lemmas.Bool.{eqb-true, eq-eqb}
 use Rattle.rows.specs.Refusals.{Passes}
-use Rattle.rows.proofs.Padding.{take_padded}
 use Rattle.renumbered.specs.Renumberings.{AllNew, Renumbers, making_checks}
-
--- the row comes back
-pub row_back : (n : ℕ) (row p : List ℕ) → length row ≡ n → n ≤ 128 → p ≡ take 128 (row ++ replicate 128 0) → take n p ≡ row
-row_back n row p l h e =
-    let P : ℕ → Type 0 = λ m. take m p ≡ row in
-    subst P l (ap (λ (q : List ℕ). take (length row) q) e ∙ take_padded 128 row 0 (omega arith))
 
 -- what the array's entries say
 module _ (n : ℕ) (row p : List ℕ) (l : length row ≡ n) (b : take n p ≡ row) (a : AllNew n row) where

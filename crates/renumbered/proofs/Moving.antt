@@ -6,10 +6,10 @@ use Rattle.rows.specs.Prices.{price}
 use Rattle.rows.specs.Refusals.{Passes, RefusedBy}
 use Rattle.rows.specs.declared.refusals.Fault.TheVariants.{NotMember}
 use Rattle.rows.specs.declared.refusals.Refusal.{Refusal}
-use Rattle.rows.proofs.Checks.{Excludes, not_both}
 use Rattle.augmenter.specs.Questions.{checks, shared_checks, Better}
 use Rattle.augmenter.specs.declared.answers.Answer.{Answer}
 use Rattle.augmenter.specs.declared.answers.Answer.TheVariants.{Found, Nothing}
+use Rattle.augmenter.proofs.Asking.{not_refused}
 use Rattle.renumbered.specs.Renumberings.{Renumbers, Moves, MemberAbove, BroughtBack}
 use Rattle.renumbered.proofs.Visits.{entry_of}
 use Rattle.renumbered.proofs.Sums.{moved_price, moved_weight}
@@ -78,15 +78,11 @@ module _ (n : ℕ) (p : List ℕ) (r : Renumbers n p) where
             ),
           )
 
-      excludes : Excludes (checks n R M qs y (length f))
-      excludes = (λ i a b. b.1 a, (λ i a b. omega (arith, a i b.0, b.1), (λ i a b. b.1 a, (λ i a b. b.1 a, tt))))
-
       not_above : (e : Refusal) → length f ≡ n → RefusedBy (checks n R M qs y (length f)) e → MemberAbove n M p x → ⊥
       not_above e l h m =
           let X = passed.0.1 in
           let W = moved_weight n p r ps qs passed.0.0 mp in
-          not_both (checks n R M qs y (length f)) e excludes
-          ((mp.0 ∙ passed.0.0, mx.0 ∙ X, l), (moved_marks x y X mx passed.1.0, (omega (arith, passed.1.1.0), (from_above x y X mx m, tt)))) h
+          not_refused n R M qs y (length f) e ((mp.0 ∙ passed.0.0, mx.0 ∙ X, l), (moved_marks x y X mx passed.1.0, (omega (arith, passed.1.1.0), tt))) (from_above x y X mx m) h
 
       pub put_refused : (f' : List ℕ) (e e' : Refusal) → length f ≡ n → Better n R M qs y f f' (Err e) → e' ≡ record { fault = NotMember; place = 0 } →
           Better n R (MemberAbove n M p) ps x o o (Err e')

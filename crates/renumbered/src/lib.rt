@@ -177,13 +177,13 @@ fn put<A: Augmenter>(
 impl<A: Augmenter> Augmenter for Renumbered<A> {
     const KIND: u8 = A::KIND;
 
-    ghost kind = { A.Augmenter.kind };
+    ghost kind = { A.kind };
 
-    ghost dim = { λ s. A.Augmenter.dim s.below };
+    ghost dim = { λ s. A.dim s.below };
 
-    ghost reaches = { λ s. A.Augmenter.reaches s.below };
+    ghost reaches = { λ s. A.reaches s.below };
 
-    ghost Member = { λ s x. MemberAbove (A.Augmenter.dim s.below) (A.Augmenter.Member s.below) (take s.count s.numbers) x };
+    ghost Member = { λ s x. MemberAbove (A.dim s.below) (A.Member s.below) (take s.count s.numbers) x };
 
     ghost dim_fits = { Prim.search rules };
 

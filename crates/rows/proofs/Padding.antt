@@ -46,7 +46,8 @@ padded_all {X} N xs f i e =
 pub take_padded : {X : Type 0} (N : ℕ) (xs : List X) (f : X) → length xs ≤ N → take (length xs) (take N (xs ++ replicate N f)) ≡ xs
 take_padded N xs f h = take-take (length xs) N (xs ++ replicate N f) h ∙ take_at xs (replicate N f) (length xs) refl
 
-pub kept_row : {X : Type 0} (n : ℕ) (f : X) (xs p : List X) → length xs ≡ n → n ≤ 128 → p ≡ take 128 (xs ++ replicate 128 f) → take n p ≡ xs
-kept_row n f xs p e h q =
+-- a row of n entries comes back from the array that it was put into
+pub kept_row : {X : Type 0} (N n : ℕ) (f : X) (xs p : List X) → length xs ≡ n → n ≤ N → p ≡ take N (xs ++ replicate N f) → take n p ≡ xs
+kept_row N n f xs p e h q =
     let P : ℕ → Type 0 = λ k. take k p ≡ xs in
-    subst P e (ap (take (length xs)) q ∙ take_padded 128 xs f (omega arith))
+    subst P e (ap (take (length xs)) q ∙ take_padded N xs f (omega arith))

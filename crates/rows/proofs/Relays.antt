@@ -1,15 +1,10 @@
 -- A refusal handed on: where a call's own checks pass, and so do the like checks of the call that it makes, the last check of that one is its own.
-use Rattle.std.proofs.Common.{◌≡◌, ℕ, Bool, true, false, eqb, List, [], ◌∷◌, ◌++◌, MatchBool, sym, subst, ⊎_elim, arith}
+use Rattle.std.proofs.Common.{◌≡◌, ℕ, Bool, true, false, eqb, List, [], ◌∷◌, ◌++◌, MatchBool, sym, subst, ⊎_elim}
 use Rattle.std.proofs.lemmas.Bool.{cases_Bool, eqb-true, eq-eqb}
-use Rattle.rows.specs.Points.{Marks, BadMark}
 use Rattle.rows.specs.Refusals.{Check, ask, number, Passes, RefusedBy}
 use Rattle.rows.specs.declared.refusals.Fault.{Fault}
 use Rattle.rows.specs.declared.refusals.Refusal.{Refusal}
 use Rattle.rows.proofs.Checks.{Excludes, Without, past, after}
-
--- a row of marks has no bad mark
-pub marks_good : (x : List ℕ) (i : ℕ) → Marks x → BadMark x i → ⊥
-marks_good x i m b = let h = m i b.0 in let g = b.1 in omega arith
 
 past_all : (cs ds : List Check) (e : Refusal) → Excludes cs → Passes cs → RefusedBy (cs ++ ds) e → RefusedBy ds e
 past_all [] ds e x p r = r

@@ -13,7 +13,7 @@ use Rattle.job.specs.Calls.{Advanced, AdvancedFrom}
 use Rattle.job.specs.Soundness.{Standing, Sound, left}
 use Rattle.job.specs.Views.{View, IsBegun, IsOpen, more, opened, left_at}
 use Rattle.job.proofs.Sounds.{totals_few, advance_keeps, member, cheapest}
-use Rattle.runs.specs.Finishing.{planes_left, Finishes, Finish, FinishLeaves}
+use Rattle.runs.specs.Finishing.{planes_left, Finishes, Finish}
 
 -- the job a after i advances, which shows b
 pub record Going (n R : ℕ) (M : List ℕ → Type 0) (a b : View) (i : ℕ) : Type 0 where
@@ -22,8 +22,6 @@ pub record Going (n R : ℕ) (M : List ℕ → Type 0) (a b : View) (i : ℕ) : 
   pub idle : a.state ≡ NotBegun → b ≡ a
   pub row : b.prices ≡ a.prices
   pub rows : b.totals.rows ≡ a.totals.rows
-  pub number : b.number ≡ a.number
-  pub ticketing : b.ticketing ≡ a.ticketing
   pub to_come : IsOpen b.state → left b + i ≤ left a
   pub closed : b.totals.closed + planes_left b.state ≡ a.totals.closed + planes_left a.state
   pub asked : b.totals.asked + left b ≤ a.totals.asked + left a
@@ -35,8 +33,6 @@ going_none n R M a w = record {
   idle = λ e. refl;
   row = refl;
   rows = refl;
-  number = refl;
-  ticketing = refl;
   to_come = λ o. omega arith;
   closed = refl;
   asked = omega arith;
@@ -69,8 +65,6 @@ module _ (n R : ℕ) (M : List ℕ → Type 0) (small : n ≤ 128) (low : R < 2 
     pub begun : IsBegun c.state
     pub row : c.prices ≡ b.prices
     pub rows : c.totals.rows ≡ b.totals.rows
-    pub number : c.number ≡ b.number
-    pub ticketing : c.ticketing ≡ b.ticketing
     pub falls : IsOpen c.state → IsOpen b.state
     pub closed : c.totals.closed + planes_left c.state ≡ b.totals.closed + planes_left b.state
     pub asked : c.totals.asked + left c ≤ b.totals.asked + left b
@@ -81,7 +75,7 @@ module _ (n R : ℕ) (M : List ℕ → Type 0) (small : n ≤ 128) (low : R < 2 
   step_from b c Finished Closed es g w f = absurd g
   step_from b c Finished Done es g w f =
       let P : View → Type 0 = λ v. StepOn b v in
-      subst P (sym g) (record { begun = subst IsBegun (sym es) tt; row = refl; rows = refl; number = refl; ticketing = refl; falls = λ o. o; closed = refl; asked = omega arith })
+      subst P (sym g) (record { begun = subst IsBegun (sym es) tt; row = refl; rows = refl; falls = λ o. o; closed = refl; asked = omega arith })
   step_from b c (Open k j) Improved es g w f =
       let t = totals_few R M b.prices b.point b.totals b.state w.stands w.spent in
       let few = w.few_rows in
@@ -98,8 +92,6 @@ module _ (n R : ℕ) (M : List ℕ → Type 0) (small : n ≤ 128) (low : R < 2 
         begun = subst IsBegun (sym cs) tt;
         row = ap (λ (v : View). v.prices) e;
         rows = ap (λ (v : View). v.totals.rows) e;
-        number = ap (λ (v : View). v.number) e;
-        ticketing = ap (λ (v : View). v.ticketing) e;
         falls = λ q. o;
         closed = omega arith;
         asked = omega arith;
@@ -120,8 +112,6 @@ module _ (n R : ℕ) (M : List ℕ → Type 0) (small : n ≤ 128) (low : R < 2 
         begun = subst IsBegun (sym cs) (begun_opened k);
         row = ap (λ (v : View). v.prices) e;
         rows = ap (λ (v : View). v.totals.rows) e;
-        number = ap (λ (v : View). v.number) e;
-        ticketing = ap (λ (v : View). v.ticketing) e;
         falls = λ q. o;
         closed = omega arith;
         asked = omega arith;
@@ -138,8 +128,6 @@ module _ (n R : ℕ) (M : List ℕ → Type 0) (small : n ≤ 128) (low : R < 2 
         idle = λ e. absurd ((left_begun a.prices a.state i h).0 e);
         row = t.row ∙ g.row;
         rows = t.rows ∙ g.rows;
-        number = t.number ∙ g.number;
-        ticketing = t.ticketing ∙ g.ticketing;
         to_come = λ o. let p = t.falls o in let x = g.to_come p in let y = k.falls p in omega arith;
         closed = t.closed ∙ g.closed;
         asked = omega (arith, t.asked, g.asked);
@@ -189,12 +177,6 @@ module _ (n R : ℕ) (M : List ℕ → Type 0) (small : n ≤ 128) (low : R < 2 
         }),
       )
 
-  pub finish_leaves : (a b c : View) (i : ℕ) (r : Step) → left a ≤ i → Going n R M a b i → Advanced n R M b (Ok r) c → FinishLeaves a (Ok tt) c
-  finish_leaves a b c i r h g q =
-      let f = last_from a b c i r b.state refl h g g.sound.stands q in
-      let P : View → Type 0 = λ v. FinishLeaves a (Ok tt) v in
-      subst P (sym f.1) (g.number, g.ticketing)
-
   refused_from : (b c : View) (s : State) (e : Refusal) → s ≡ NotBegun → AdvancedFrom n R M b s (Err e) c → (e ≡ record { fault = NotBegunFault; place = 0 }) × (c ≡ b)
   refused_from b c NotBegun e es q = q
   refused_from b c (Open k j) e es q = let z : ◌≡◌ {A = ℕ} 0 1 = cc in absurd (omega arith)
@@ -217,3 +199,20 @@ module _ (n R : ℕ) (M : List ℕ → Type 0) (small : n ≤ 128) (low : R < 2 
 pub advanced_at : {X : Type 0} (d r : X → ℕ) (M : X → List ℕ → Type 0) (x y : X) (a b : View) (t : Result Step Refusal) → x ≡ y →
     Advanced (d x) (r x) (M x) a t b → Advanced (d y) (r y) (M y) a t b
 advanced_at {X} d r M x y a b t e g = let P : X → Type 0 = λ z. Advanced (d z) (r z) (M z) a t b in subst P e g
+
+-- an advance, refused or not, leaves the job's number and its ticket as they were
+same_of_view : (a b c : View) → c ≡ b → b.number ≡ a.number → b.ticketing ≡ a.ticketing → (c.number ≡ a.number) × (c.ticketing ≡ a.ticketing)
+same_of_view a b c e n t = (ap (λ (v : View). v.number) e ∙ n, ap (λ (v : View). v.ticketing) e ∙ t)
+
+pub advance_leaves : (n R : ℕ) (M : List ℕ → Type 0) (a c : View) (s : State) (r : Result Step Refusal) → AdvancedFrom n R M a s r c →
+    (c.number ≡ a.number) × (c.ticketing ≡ a.ticketing)
+advance_leaves n R M a c NotBegun (Ok t) g = absurd g
+advance_leaves n R M a c NotBegun (Err e) g = same_of_view a a c g.1 refl refl
+advance_leaves n R M a c (Open k j) (Ok Improved) g = same_of_view a _ c g.2 refl refl
+advance_leaves n R M a c (Open k j) (Ok Closed) g = same_of_view a _ c g.2 refl refl
+advance_leaves n R M a c (Open k j) (Ok Done) g = absurd g
+advance_leaves n R M a c (Open k j) (Err e) g = same_of_view a a c g.1 refl refl
+advance_leaves n R M a c Finished (Ok Improved) g = absurd g
+advance_leaves n R M a c Finished (Ok Closed) g = absurd g
+advance_leaves n R M a c Finished (Ok Done) g = same_of_view a a c g refl refl
+advance_leaves n R M a c Finished (Err e) g = absurd g

@@ -32,13 +32,5 @@ abbrev pub Finish : ℕ → ℕ → (List ℕ → Type 0) → View → Result (U
 Finish n R M a (Ok _) b = IsBegun a.state × Finishes n R M a b
 Finish n R M a (Err e) b = (a.state ≡ NotBegun) × (e ≡ record { fault = NotBegunFault; place = 0 }) × (b ≡ a)
 
--- the job's number and what became of its ticket stay; a refusal alters nothing
-abbrev pub FinishLeaves : View → Result (Unit {0}) Refusal → View → Type 0
-FinishLeaves a (Ok _) b = (b.number ≡ a.number) × (b.ticketing ≡ a.ticketing)
-FinishLeaves a (Err e) b = b ≡ a
-
-abbrev pub FinishLeavesBy : {X : Type 0} {G : Ghosts X} → (X → ℕ) → (X → ℕ) → (X → List ℕ → Type 0) → Job X G → Result (Unit {0}) Refusal → Job X G → Type 0
-FinishLeavesBy d r M a e b = SoundJob d r M a → FinishLeaves (view d a) e (view d b)
-
 abbrev pub FinishBy : {X : Type 0} {G : Ghosts X} → (X → ℕ) → (X → ℕ) → (X → List ℕ → Type 0) → Job X G → Result (Unit {0}) Refusal → Job X G → Type 0
 FinishBy d r M a e b = SoundJob d r M a → Finish (d a.below) (r a.below) (M a.below) (view d a) e (view d b)

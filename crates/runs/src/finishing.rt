@@ -1,5 +1,5 @@
 ghost use Rattle.std.specs.Prelude.{◌≡◌, ℕ};
-ghost use Rattle.runs.specs.Finishing.{FinishBy, FinishLeavesBy};
+ghost use Rattle.runs.specs.Finishing.{FinishBy};
 
 use augmenter::Augmenter;
 use job::job::Job;
@@ -9,7 +9,8 @@ use rows::refusals::Refusal;
 pub fn finish<A: Augmenter>(job: &mut Job<A>) -> Result<(), Refusal>
     ensures below { job.new.below ≡ job.old.below }
     ensures ends { FinishBy A.dim A.reaches A.Member job.old result job.new }
-    ensures leaves { FinishLeavesBy A.dim A.reaches A.Member job.old result job.new }
+    ensures number { job.new.number ≡ job.old.number }
+    ensures ticketing { job.new.ticketing ≡ job.old.ticketing }
 {
     for _ in 0..job.questions_left() {
         if let Err(refusal) = job.advance() {

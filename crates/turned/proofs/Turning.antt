@@ -10,6 +10,7 @@ use Rattle.rows.specs.Points.{Marks, Point}
 use Rattle.rows.specs.Prices.{price, pays, weight}
 use Rattle.rows.specs.Refusals.{Passes, RefusedBy}
 use Rattle.rows.specs.declared.refusals.Refusal.{Refusal}
+use Rattle.rows.proofs.Marks.{marks_rest}
 use Rattle.augmenter.specs.Questions.{shared_checks, checks, Cheapest, Cheaper, Answered}
 use Rattle.augmenter.specs.declared.answers.Answer.{Answer}
 use Rattle.augmenter.specs.declared.answers.Answer.TheVariants.{Found, Nothing}
@@ -32,9 +33,6 @@ part_point n s l h =
     let t = length-take n s in
     let P : ℕ → Type 0 = λ b. b ≤ 1 in
     (omega arith, λ i k. subst P (sym (get_or-take n s i 0 (omega arith))) (h i (omega arith)))
-
-rest : (x : ℕ) (xs : List ℕ) → Marks (x ∷ xs) → Marks xs
-rest x xs h = λ i l. h (suc i) (omega arith)
 
 mark_xor : (x s : ℕ) → x ≤ 1 → s ≤ 1 → bit_xor x s ≤ 1
 mark_xor zero s h k = k
@@ -71,7 +69,7 @@ nat_abs_turn (negsuc n) (suc s) = refl
 xor_twice : (x s : List ℕ) → length x ≡ length s → Marks x → Marks s → xor (xor x s) s ≡ x
 xor_twice [] s e h k = refl
 xor_twice (a ∷ x) [] e h k = absurd (omega arith)
-xor_twice (a ∷ x) (b ∷ s) e h k = ap₂ ◌∷◌ (mark_twice a b (h 0 (omega arith)) (k 0 (omega arith))) (xor_twice x s (omega arith) (rest a x h) (rest b s k))
+xor_twice (a ∷ x) (b ∷ s) e h k = ap₂ ◌∷◌ (mark_twice a b (h 0 (omega arith)) (k 0 (omega arith))) (xor_twice x s (omega arith) (marks_rest a x h) (marks_rest b s k))
 
 xor_point : (n : ℕ) (x s : List ℕ) → Point n x → Point n s → Point n (xor x s)
 xor_point n x s p q =
@@ -85,7 +83,7 @@ price_turned (p ∷ ps) [] x e f h k = absurd (omega arith)
 price_turned (p ∷ ps) (b ∷ s) [] e f h k = absurd (omega arith)
 price_turned (p ∷ ps) (b ∷ s) (a ∷ x) e f h k =
     let one = mark_pays p b a (h 0 (omega arith)) (k 0 (omega arith)) in
-    let more = price_turned ps s x (omega arith) (omega arith) (rest b s h) (rest a x k) in
+    let more = price_turned ps s x (omega arith) (omega arith) (marks_rest b s h) (marks_rest a x k) in
     omega (arith, ints)
 
 weight_turned : (ps : List ℤ) (s : List ℕ) → length ps ≡ length s → weight (turned_prices ps s) ≡ weight ps

@@ -114,13 +114,13 @@ fn turn_back(answer: Answer, found: &[u8], marks: &[u8], out: &mut [u8])
 impl<A: Augmenter> Augmenter for Turned<A> {
     const KIND: u8 = A::KIND;
 
-    ghost kind = { A.Augmenter.kind };
+    ghost kind = { A.kind };
 
-    ghost dim = { λ t. A.Augmenter.dim t.below };
+    ghost dim = { λ t. A.dim t.below };
 
-    ghost reaches = { λ t. A.Augmenter.reaches t.below };
+    ghost reaches = { λ t. A.reaches t.below };
 
-    ghost Member = { λ t x. TurnedIn (A.Augmenter.dim t.below) (A.Augmenter.Member t.below) (take (A.Augmenter.dim t.below) t.marks) x };
+    ghost Member = { λ t x. TurnedIn (A.dim t.below) (A.Member t.below) (take (A.dim t.below) t.marks) x };
 
     ghost dim_fits = { Prim.search rules };
 

@@ -11,4 +11,4 @@ pub returns : goal.returns
 returns g c =
     let p = c.in_ok-check_marks.ensures in
     let e = p.0 ∙ c.dimension.ensures in
-    ((e, p.1), refl, kept_row _ 0 c.args.marks.now _ e (g.met.A.Augmenter.dim_fits c.args.below) c.padded.ensures)
+    ((e, p.1), refl, kept_row 128 _ 0 c.args.marks.now _ e (g.met.A.Augmenter.dim_fits c.args.below) c.padded.ensures)
