@@ -201,18 +201,18 @@ pub advanced_at : {X : Type 0} (d r : X → ℕ) (M : X → List ℕ → Type 0)
 advanced_at {X} d r M x y a b t e g = let P : X → Type 0 = λ z. Advanced (d z) (r z) (M z) a t b in subst P e g
 
 -- an advance, refused or not, leaves the job's number and its ticket as they were
-same_of_view : (a b c : View) → c ≡ b → b.number ≡ a.number → b.ticketing ≡ a.ticketing → (c.number ≡ a.number) × (c.ticketing ≡ a.ticketing)
-same_of_view a b c e n t = (ap (λ (v : View). v.number) e ∙ n, ap (λ (v : View). v.ticketing) e ∙ t)
+same_of_view : (b c : View) → c ≡ b → (c.number ≡ b.number) × (c.ticketing ≡ b.ticketing)
+same_of_view b c e = (ap (λ (v : View). v.number) e, ap (λ (v : View). v.ticketing) e)
 
 pub advance_leaves : (n R : ℕ) (M : List ℕ → Type 0) (a c : View) (s : State) (r : Result Step Refusal) → AdvancedFrom n R M a s r c →
     (c.number ≡ a.number) × (c.ticketing ≡ a.ticketing)
 advance_leaves n R M a c NotBegun (Ok t) g = absurd g
-advance_leaves n R M a c NotBegun (Err e) g = same_of_view a a c g.1 refl refl
-advance_leaves n R M a c (Open k j) (Ok Improved) g = same_of_view a _ c g.2 refl refl
-advance_leaves n R M a c (Open k j) (Ok Closed) g = same_of_view a _ c g.2 refl refl
+advance_leaves n R M a c NotBegun (Err e) g = same_of_view a c g.1
+advance_leaves n R M a c (Open k j) (Ok Improved) g = same_of_view _ c g.2
+advance_leaves n R M a c (Open k j) (Ok Closed) g = same_of_view _ c g.2
 advance_leaves n R M a c (Open k j) (Ok Done) g = absurd g
-advance_leaves n R M a c (Open k j) (Err e) g = same_of_view a a c g.1 refl refl
+advance_leaves n R M a c (Open k j) (Err e) g = same_of_view a c g.1
 advance_leaves n R M a c Finished (Ok Improved) g = absurd g
 advance_leaves n R M a c Finished (Ok Closed) g = absurd g
-advance_leaves n R M a c Finished (Ok Done) g = same_of_view a a c g refl refl
+advance_leaves n R M a c Finished (Ok Done) g = same_of_view a c g
 advance_leaves n R M a c Finished (Err e) g = absurd g
