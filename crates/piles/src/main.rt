@@ -15,6 +15,7 @@ use runs::planning::plan;
 use runs::try_calls;
 use std::alloc::{AllocError, Global};
 use std::io;
+use through::plan_through;
 
 fn main(rt: HostRuntime) -> io::Result<()> {
     println!(rt; "pile                                  reach  start  chosen  price  listed")?;
@@ -54,7 +55,8 @@ fn main(rt: HostRuntime) -> io::Result<()> {
         orders::renumbered_pinned_turned(),
         &orders::RENUMBERED_PINNED_TURNED,
     )?;
-    show_calls(&rt)
+    show_calls(&rt)?;
+    show_letter(&rt)
 }
 
 /// Plans a pile, and a listed set of its members, and shows what each chose.
@@ -143,6 +145,22 @@ fn show_calls(rt: &HostRuntime) -> io::Result<()> {
         println!(rt; "  {}", name(outcome))?;
     }
     Ok(())
+}
+
+/// The kind letter of a plan through three layers.
+fn show_letter(rt: &HostRuntime) -> io::Result<()> {
+    let start = &orders::TURNED_PINNED_RENUMBERED.start;
+    let plan = match orders::turned_pinned_renumbered() {
+        Ok(pile) => plan_through(pile, 1, start, &PRICES),
+        Err(refusal) => Err(refusal),
+    };
+    match plan {
+        Ok(bytes) => println!(rt;
+            "\nKind letter through turned, pinned and renumbered: {}",
+            bytes[1] as char
+        ),
+        Err(refusal) => show_refusal(rt, refusal),
+    }
 }
 
 fn name(outcome: &Outcome) -> &'static str {
