@@ -1,7 +1,7 @@
 -- Questions: what an augmenter promises of a price row, a point and an output row, whatever its set of members is.
 -- n is the dimension, R the reach, M says which rows are members; ps are the prices, x the point, o and o' the output row before and after.
 use Rattle.std.specs.Prelude.{◌≡◌, ℕ, ◌≤◌, List, [], ◌∷◌, ◌++◌, length, ℤ, ◌≤ℤ◌, ◌<ℤ◌, Ok, Err, Result}
-use Rattle.rows.specs.Points.{Marks, BadMark}
+use Rattle.rows.specs.Points.{UpTo, FirstAbove, Marks, BadMark}
 use Rattle.rows.specs.Prices.{price, weight}
 use Rattle.rows.specs.Refusals.{Check, ask, ask_at, Passes, RefusedBy}
 use Rattle.rows.specs.declared.refusals.Fault.TheVariants.{Length, Mark, Weight, NotMember}
@@ -16,6 +16,10 @@ Lengths n ps x m = (length ps ≡ n) × (length x ≡ n) × (m ≡ n)
 -- the checks that are the same for every set, in their order
 abbrev pub shared_checks : ℕ → ℕ → List ℤ → List ℕ → ℕ → List Check
 shared_checks n R ps x m = ask Length (Lengths n ps x m) ∷ ask_at Mark (Marks x) (BadMark x) ∷ ask Weight (weight ps ≤ R) ∷ []
+
+-- the checks of a row s of n bytes none of which is above m
+abbrev pub row_checks : ℕ → ℕ → List ℕ → List Check
+row_checks n m s = ask Length (length s ≡ n) ∷ ask_at Mark (UpTo m s) (FirstAbove m s) ∷ []
 
 -- the checks of a question, in their order
 abbrev pub checks : ℕ → ℕ → (List ℕ → Type 0) → List ℤ → List ℕ → ℕ → List Check

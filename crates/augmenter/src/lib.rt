@@ -3,12 +3,12 @@
 
 ghost use Rattle.std.specs.Prelude.{◌≡◌, ℕ, ◌^◌, ◌<◌, ◌≤◌, List, Decides};
 ghost use Rattle.rows.specs.Points.{Point};
-ghost use Rattle.augmenter.specs.Questions.{Better, Screened, shared_checks};
+ghost use Rattle.augmenter.specs.Questions.{Better, Screened, shared_checks, row_checks};
 
 pub mod answers;
 
 use answers::Answer;
-use rows::points::bad_mark;
+use rows::points::{bad_mark, first_above};
 use rows::prices::weight;
 use rows::refusals::{Fault, Refusal};
 
@@ -16,7 +16,7 @@ use rows::refusals::{Fault, Refusal};
 ///
 /// Dimension, reach and set never alter; the kind letter belongs to the make.
 pub trait Augmenter {
-    /// The kind letter of the make.
+    /// The kind letter of the make. A byte and no enum: a make elsewhere has a letter of its own.
     const KIND: u8;
 
     ghost kind: { ℕ };
@@ -74,4 +74,17 @@ pub fn shared_checks(
         return Err(Fault::Weight.at(0));
     }
     Ok(())
+}
+
+/// The checks of a row that a layer is made with: its length, and that no byte is above `most`.
+pub fn check_row(n: usize, row: &[u8], most: u8) -> Result<(), Refusal>
+    ensures { Screened (row_checks n most row.now) result }
+{
+    if row.len() != n {
+        return Err(Fault::Length.at(0));
+    }
+    match first_above(row, most) {
+        Some(place) => Err(Fault::Mark.at(place)),
+        None => Ok(()),
+    }
 }

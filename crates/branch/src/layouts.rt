@@ -11,6 +11,16 @@ pub enum Charge {
     Credit(u32),
 }
 
+impl Charge {
+    /// The price over the contract.
+    pub fn price(self) -> i64 {
+        match self {
+            Charge::Kept(class, units) => class.price(units),
+            Charge::Credit(amount) => -i64::from(amount),
+        }
+    }
+}
+
 #[derive(Clone, Copy)]
 pub struct Part {
     pub name: &'static str,

@@ -69,14 +69,14 @@ fn one_against_three(rt: HostRuntime) -> Result<(), Fail> {
 #[test]
 fn refusals(rt: HostRuntime) -> Result<(), Fail> {
     let mut job = pair()?;
-    assert_eq!(rt; refused(job.advance()), (12, 0));
-    assert_eq!(rt; refused(job.begin(&[1], &[5, -4])), (1, 0));
-    assert_eq!(rt; refused(job.begin(&[0, 2], &[5, -4])), (2, 1));
-    assert_eq!(rt; refused(job.begin(&[1, 1], &[5, -4])), (3, 0));
-    assert_eq!(rt; refused(job.begin(&[1, 1], &[5, -3])), (4, 0));
+    assert_eq!(rt; refused(job.advance()), Some((12, 0)));
+    assert_eq!(rt; refused(job.begin(&[1], &[5, -4])), Some((1, 0)));
+    assert_eq!(rt; refused(job.begin(&[0, 2], &[5, -4])), Some((2, 1)));
+    assert_eq!(rt; refused(job.begin(&[1, 1], &[5, -4])), Some((3, 0)));
+    assert_eq!(rt; refused(job.begin(&[1, 1], &[5, -3])), Some((4, 0)));
     assert_eq!(rt; job.state(), State::NotBegun);
-    assert_eq!(rt; refused(job.begin(&[1, 0], &[5, -3])), (0, 0));
-    assert_eq!(rt; refused(job.begin(&[1], &[5, -4])), (11, 0));
+    assert_eq!(rt; refused(job.begin(&[1, 0], &[5, -3])), None);
+    assert_eq!(rt; refused(job.begin(&[1], &[5, -4])), Some((11, 0)));
     assert_eq!(rt; job.totals().rows, 1);
     Ok(())
 }
@@ -88,41 +88,9 @@ fn ledger(rt: HostRuntime) -> Result<(), Fail> {
     for _ in 0..5 {
         job.advance()?;
     }
-    assert_eq!(rt;
-        job.line(2),
-        Line {
-            asked: 2,
-            improved: 1,
-        }
-    );
-    assert_eq!(rt;
-        job.line(1),
-        Line {
-            asked: 1,
-            improved: 0,
-        }
-    );
-    assert_eq!(rt;
-        job.line(0),
-        Line {
-            asked: 1,
-            improved: 0,
-        }
-    );
-    assert_eq!(rt;
-        job.line(3),
-        Line {
-            asked: 0,
-            improved: 0,
-        }
-    );
-    assert_eq!(rt;
-        job.line(40),
-        Line {
-            asked: 0,
-            improved: 0,
-        }
-    );
+    for (plane, asked, improved) in [(2, 2, 1), (1, 1, 0), (0, 1, 0), (3, 0, 0), (40, 0, 0)] {
+        assert_eq!(rt; job.line(plane), Line { asked, improved });
+    }
     assert_eq!(rt; job.advance()?, Step::Done);
     assert_eq!(rt; (job.number(), job.totals().asked), (7, 4));
     Ok(())

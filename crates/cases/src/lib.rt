@@ -13,11 +13,9 @@ mod tickets;
 #[cfg(test)]
 use rows::refusals::Refusal;
 
-/// The number and the place of a refusal, (0, 0) for none.
+/// The number and the place of a refusal, if there is one.
 #[cfg(test)]
-fn refused<T: Drop>(r: Result<T, Refusal>) -> (u8, usize) {
-    match r {
-        Ok(_) => (0, 0),
-        Err(refusal) => (refusal.fault.number(), refusal.place),
-    }
+fn refused<T: Drop>(r: Result<T, Refusal>) -> Option<(u8, usize)> {
+    r.err()
+        .map(|refusal| (u8::from(refusal.fault), refusal.place))
 }

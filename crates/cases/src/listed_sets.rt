@@ -12,13 +12,13 @@ fn two() -> [Packed; 2] {
 #[test]
 fn makings_refused(rt: HostRuntime) {
     let many = [[0u8; 16]; 257];
-    assert_eq!(rt; refused(Listed::new(129, 1 << 40, &many)), (5, 0));
-    assert_eq!(rt; refused(Listed::new(2, 1 << 40, &many)), (6, 0));
-    assert_eq!(rt; refused(Listed::new(2, 1 << 40, &two())), (7, 0));
-    assert_eq!(rt; refused(Listed::new(1, 8, &two())), (8, 1));
+    assert_eq!(rt; refused(Listed::new(129, 1 << 40, &many)), Some((5, 0)));
+    assert_eq!(rt; refused(Listed::new(2, 1 << 40, &many)), Some((6, 0)));
+    assert_eq!(rt; refused(Listed::new(2, 1 << 40, &two())), Some((7, 0)));
+    assert_eq!(rt; refused(Listed::new(1, 8, &two())), Some((8, 1)));
     assert_eq!(rt;
         refused(Listed::new(128, (1 << 40) - 1, &many[0..256])),
-        (0, 0)
+        None
     );
 }
 
@@ -26,14 +26,23 @@ fn makings_refused(rt: HostRuntime) {
 fn questions_refused(rt: HostRuntime) -> Result<(), Fail> {
     let set = Listed::new(2, 8, &two())?;
     let mut out = [9, 9];
-    assert_eq!(rt; refused(set.better(&[5], &[2, 0], &mut out)), (1, 0));
+    assert_eq!(rt; refused(set.better(&[5], &[2, 0], &mut out)), Some((1, 0)));
     assert_eq!(rt;
         refused(set.better(&[5, -3], &[1, 0], &mut out[0..1])),
-        (1, 0)
+        Some((1, 0))
     );
-    assert_eq!(rt; refused(set.better(&[5, -4], &[1, 3], &mut out)), (2, 1));
-    assert_eq!(rt; refused(set.better(&[5, -4], &[1, 1], &mut out)), (3, 0));
-    assert_eq!(rt; refused(set.better(&[5, -3], &[1, 1], &mut out)), (4, 0));
+    assert_eq!(rt;
+        refused(set.better(&[5, -4], &[1, 3], &mut out)),
+        Some((2, 1))
+    );
+    assert_eq!(rt;
+        refused(set.better(&[5, -4], &[1, 1], &mut out)),
+        Some((3, 0))
+    );
+    assert_eq!(rt;
+        refused(set.better(&[5, -3], &[1, 1], &mut out)),
+        Some((4, 0))
+    );
     assert_eq!(rt; out, [9, 9]);
     Ok(())
 }

@@ -23,10 +23,9 @@ fn rows_at_planes(rt: HostRuntime) {
     let two = row_at_plane(&row, 2);
     let one = row_at_plane(&row, 1);
     let zero = row_at_plane(&row, 0);
-    assert_eq!(rt; (two[0], two[1]), (1, 0));
-    assert_eq!(rt; (one[0], one[1]), (2, -1));
-    assert_eq!(rt; (zero[0], zero[1]), (5, -3));
-    assert_eq!(rt; zero[2], 0);
+    assert_eq!(rt; &two[..2], [1, 0].as_slice());
+    assert_eq!(rt; &one[..2], [2, -1].as_slice());
+    assert_eq!(rt; &zero[..3], [5, -3, 0].as_slice());
 }
 
 /// The magnitude of the least price does not fit a signed number of 64 bits.
@@ -53,11 +52,12 @@ fn minus_one_has_one_plane(rt: HostRuntime) {
 
 #[test]
 fn packing(rt: HostRuntime) {
-    let bytes = pack(&[1, 0, 0, 0, 0, 0, 0, 1, 0, 1]);
-    assert_eq!(rt; (bytes[0], bytes[1], bytes[2]), (129, 2, 0));
+    let marks = [1, 0, 0, 0, 0, 0, 0, 1, 0, 1];
+    let bytes = pack(&marks);
+    assert_eq!(rt; &bytes[..3], [129, 2, 0].as_slice());
     let mut row = [7u8; 10];
     unpack(&bytes, &mut row);
-    assert_eq!(rt; (row[0], row[1], row[7], row[8], row[9]), (1, 0, 1, 0, 1));
+    assert_eq!(rt; row, marks);
     assert_eq!(rt; stray_bit(&bytes, 10), None);
     assert_eq!(rt; stray_bit(&bytes, 8), Some(9));
     assert_eq!(rt; stray_bit(&bytes, 1), Some(7));

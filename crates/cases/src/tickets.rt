@@ -4,8 +4,9 @@ use job::parts::{State, Step};
 use job::tries::{Call, Outcome};
 use listed::Listed;
 use rows::packed::pack;
-use rows::refusals::Refusal;
+use rows::refusals::{Fault, Refusal};
 use runs::finishing::finish;
+use runs::planning::plan;
 use runs::try_calls;
 use std::test::Fail;
 
@@ -41,18 +42,18 @@ fn plan_of_the_pair(rt: HostRuntime) -> Result<(), Fail> {
 fn tickets_refused(rt: HostRuntime) -> Result<(), Fail> {
     let mut job = finished()?;
     let mut plan = [0u8; 46];
-    assert_eq!(rt; refused(job.write_plan(&mut plan[0..45])), (17, 0));
+    assert_eq!(rt; refused(job.write_plan(&mut plan[0..45])), Some((17, 0)));
     assert_eq!(rt; plan[0], 0);
-    assert_eq!(rt; refused(job.write_plan(&mut plan)), (0, 0));
-    assert_eq!(rt; refused(job.write_plan(&mut plan)), (15, 0));
-    assert_eq!(rt; refused(job.reprice(&[1])), (1, 0));
-    assert_eq!(rt; refused(job.reprice(&[5, 4])), (3, 0));
-    assert_eq!(rt; refused(job.reprice(&[4, 3])), (0, 0));
-    assert_eq!(rt; refused(job.write_plan(&mut plan)), (14, 0));
+    assert_eq!(rt; refused(job.write_plan(&mut plan)), None);
+    assert_eq!(rt; refused(job.write_plan(&mut plan)), Some((15, 0)));
+    assert_eq!(rt; refused(job.reprice(&[1])), Some((1, 0)));
+    assert_eq!(rt; refused(job.reprice(&[5, 4])), Some((3, 0)));
+    assert_eq!(rt; refused(job.reprice(&[4, 3])), None);
+    assert_eq!(rt; refused(job.write_plan(&mut plan)), Some((14, 0)));
     let mut fresh = Job::new(pair()?, 1);
-    assert_eq!(rt; refused(fresh.write_plan(&mut plan)), (12, 0));
-    assert_eq!(rt; refused(fresh.reprice(&[1, 1])), (12, 0));
-    assert_eq!(rt; refused(finish(&mut fresh)), (12, 0));
+    assert_eq!(rt; refused(fresh.write_plan(&mut plan)), Some((12, 0)));
+    assert_eq!(rt; refused(fresh.reprice(&[1, 1])), Some((12, 0)));
+    assert_eq!(rt; refused(finish(&mut fresh)), Some((12, 0)));
     Ok(())
 }
 
@@ -79,73 +80,49 @@ fn a_thousand_rows(rt: HostRuntime) -> Result<(), Fail> {
     for _ in 1..1000 {
         job.reprice(&[0, 0])?;
     }
-    assert_eq!(rt; refused(job.reprice(&[0])), (13, 0));
+    assert_eq!(rt; refused(job.reprice(&[0])), Some((13, 0)));
     assert_eq!(rt; job.totals().rows, 1000);
     Ok(())
 }
 
-/// A letter for what came of a call, and the number of a refusal.
-fn shown(outcome: &Outcome) -> (char, u8) {
-    match outcome {
-        Outcome::Accepted => ('a', 0),
-        Outcome::Advanced(step) => (if *step == Step::Done { 'd' } else { 'q' }, 0),
-        Outcome::Issued { .. } => ('t', 0),
-        Outcome::Written(_) => ('w', 0),
-        Outcome::Withdrawn => ('x', 0),
-        Outcome::Refused(refusal) => ('r', refusal.fault.number()),
-    }
-}
-
-/// Stale, foreign and invented tickets are among the calls.
-fn calls() -> [Call<'static>; 14] {
+/// Calls, and what should come of each, with the plan that is written. Stale, foreign and invented tickets are among them.
+fn calls_with_outcomes(plan: [u8; 46]) -> [(Call<'static>, Result<Outcome, Refusal>); 14] {
+    let begin = Call::Begin {
+        start: &[1, 0],
+        prices: &[1, 0],
+    };
+    let write = |number, room| Call::Write {
+        number,
+        row: 1,
+        room,
+    };
+    let issued = |row| Ok(Outcome::Issued { number: 7, row });
     [
-        Call::Advance,
-        Call::Begin {
-            start: &[1, 0],
-            prices: &[1, 0],
-        },
-        Call::Issue,
-        Call::Advance,
-        Call::Advance,
-        Call::Advance,
-        Call::Issue,
-        Call::Write {
-            number: 8,
-            row: 1,
-            room: 46,
-        },
-        Call::Write {
-            number: 7,
-            row: 1,
-            room: 45,
-        },
-        Call::Withdraw { number: 7, row: 2 },
-        Call::Write {
-            number: 7,
-            row: 1,
-            room: 99,
-        },
-        Call::Write {
-            number: 7,
-            row: 1,
-            room: 46,
-        },
-        Call::Reprice { prices: &[0, 0] },
-        Call::Issue,
+        (Call::Advance, Err(Fault::NotBegun.at(0))),
+        (begin, Ok(Outcome::Accepted)),
+        (Call::Issue, Err(Fault::NotFinished.at(0))),
+        (Call::Advance, Ok(Outcome::Advanced(Step::Improved))),
+        (Call::Advance, Ok(Outcome::Advanced(Step::Closed))),
+        (Call::Advance, Ok(Outcome::Advanced(Step::Done))),
+        (Call::Issue, issued(1)),
+        (write(8, 46), Err(Fault::WrongTicket.at(0))),
+        (write(7, 45), Err(Fault::ShortBuffer.at(0))),
+        (Call::Withdraw { number: 7, row: 2 }, Ok(Outcome::Withdrawn)),
+        (write(7, 99), Ok(Outcome::Written(plan))),
+        (write(7, 46), Err(Fault::WrongTicket.at(0))),
+        (Call::Reprice { prices: &[0, 0] }, Ok(Outcome::Accepted)),
+        (Call::Issue, issued(2)),
     ]
 }
 
 #[test]
 fn lists_of_calls(rt: HostRuntime) -> Result<(), Fail> {
-    let mut outcomes = [Outcome::Withdrawn; 16];
-    let (job, count) = try_calls(pair()?, 7, &calls(), &mut outcomes);
+    let tried = calls_with_outcomes(plan(pair()?, 7, &[1, 0], &[1, 0])?);
+    let mut outcomes = [Ok(Outcome::Withdrawn); 16];
+    let (job, count) = try_calls(pair()?, 7, &tried.map(|(call, _)| call), &mut outcomes);
     assert_eq!(rt; count, 14);
-    let letters = [
-        'r', 'a', 'r', 'q', 'q', 'd', 't', 'r', 'r', 'x', 'w', 'r', 'a', 't',
-    ];
-    let numbers = [12, 0, 14, 0, 0, 0, 0, 16, 17, 0, 0, 16, 0, 0];
-    for i in 0..14 {
-        assert_eq!(rt; shown(&outcomes[i]), (letters[i], numbers[i]));
+    for (outcome, (_, expected)) in outcomes.iter().zip(&tried) {
+        assert_eq!(rt; outcome, expected);
     }
     assert_eq!(rt; (job.totals().rows, job.totals().asked), (2, 2));
     Ok(())

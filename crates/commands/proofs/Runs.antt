@@ -1,8 +1,9 @@
 -- What is written reads back, and what reads whole is what would be written: one command, and a run of them.
-use Rattle.std.proofs.Common.{◌≡◌, ℕ, suc, ◌+◌, ◌-◌, ◌<◌, ◌≤◌, true, List, [], ◌∷◌, ◌++◌, map, length, get_or, take, drop, is_some, Some, None, Ok, Err, Option, sym, refl, ap, ◌∙◌, subst, arith, length-append, length-drop, take-add}
+use Rattle.std.proofs.Common.{◌≡◌, ℕ, suc, ◌+◌, ◌-◌, ◌<◌, ◌≤◌, true, List, [], ◌∷◌, ◌++◌, map, length, get_or, take, drop, is_some, Some, None, Ok, Err, Option, slice_range, sym, refl, ap, ◌∙◌, subst, arith, length-append, length-drop, take-add}
 use Rattle.std.specs.List.{flat_map, AllByRecursion}
-use Rattle.std.proofs.lemmas.List.{append_assoc, append-nil, drop_at, drop_more, get_or_at, length-take-le, take_at}
+use Rattle.std.proofs.lemmas.List.{append_assoc, append-nil, drop_at, drop_more, get_or_at, length-take-le, take_at, take_rest}
 use Rattle.rows.specs.Refusals.{Passes}
+use Rattle.rows.specs.declared.refusals.Fault.TheVariants.{Width}
 use Rattle.rows.proofs.Checks.{not_both}
 use Rattle.commands.specs.declared.command.Command.{Command}
 use Rattle.commands.specs.Commands.{Said, Whole, bytes, said, width_of}
@@ -21,6 +22,30 @@ next_is s o a w b c l k h e d n =
     let q : operand_width (get_or s a 0) ≡ w = ap or_0 k in
     let z : length (said c).1 ≡ w = ap (λ (x : Said). length x.1) d ∙ operand_is s o a w h e in
     (l, (ap is_some k, (omega arith, tt)), refl, d ∙ pair_same _ _ _ _ refl (e ∙ ap (λ (m : ℕ). take m (drop (a + 1) s)) (sym q)), omega arith)
+
+-- the letter and the bytes after it are split from what is left of a script
+pub letter_split : (s rest : List ℕ) (a x : ℕ) → take (length s - a) (drop a s) ≡ x ∷ rest → (a < length s) × (x ≡ get_or s a 0) × (rest ≡ drop (a + 1) s)
+letter_split s rest a x e =
+    let d : drop a s ≡ x ∷ rest = sym (take_rest s a) ∙ e in
+    let l : a < length s = omega (arith, ap length d, length-drop a s) in
+    let m = drop_more s a 0 l in
+    (l, (cc), cc)
+
+-- an operand is cut short
+pub next_short : (s rest : List ℕ) (a x w : ℕ) → take (length s - a) (drop a s) ≡ x ∷ rest → width_of x ≡ Some w → length rest < w → Next s a (Err (record { fault = Width; place = a })) a
+next_short s rest a x w e k h =
+    let p = letter_split s rest a x e in
+    let q : width_of (get_or s a 0) ≡ Some w = ap width_of (sym p.1) ∙ k in
+    let n : operand_width (get_or s a 0) ≡ w = ap or_0 q in
+    (p.0, (ap is_some q, (refl, λ f. omega (arith, n, ap length p.2, length-drop (a + 1) s))), refl)
+
+-- an operand is as long as its letter asks for
+pub next_read : (s rest o : List ℕ) (a x w : ℕ) (c : Command) → take (length s - a) (drop a s) ≡ x ∷ rest → width_of x ≡ Some w → w ≤ length rest → o ≡ slice_range rest 0 w → said c ≡ (x, o) →
+    Next s a (Ok (Some (a, c))) (a + 1 + w)
+next_read s rest o a x w c e k h q d =
+    let p = letter_split s rest a x e in
+    let z : w - 0 ≡ w = omega arith in
+    next_is s o a w (a + 1 + w) c p.0 (ap width_of (sym p.1) ∙ k) (omega (arith, p.0, ap length p.2, length-drop (a + 1) s)) (q ∙ (ap (λ (m : ℕ). take m rest) z ∙ ap (take w) p.2)) (d ∙ pair_same _ _ o o p.1 refl) refl
 
 -- the command c stands at the place a of s
 module _ (s pre rest : List ℕ) (c : Said) (a : ℕ) (e : s ≡ pre ++ (bytes c ++ rest)) (l : length pre ≡ a) (w : Whole c) where

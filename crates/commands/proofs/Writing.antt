@@ -1,12 +1,14 @@
 -- Commands written one after the other: what stands after the first i of a run, and one more.
-use Rattle.std.proofs.Common.{◌≡◌, ℕ, ◌+◌, ◌-◌, ◌<◌, ◌≤◌, List, [], ◌∷◌, ◌++◌, map, length, get_or, take, drop, sym, refl, ap, ◌∙◌, subst, ap₂, arith, length-append, length-drop}
+use Rattle.std.proofs.Common.{◌≡◌, ℕ, suc, Bool, true, false, Decides, MatchBool, ◌+◌, ◌-◌, ◌<◌, ◌≤◌, List, [], ◌∷◌, ◌++◌, map, length, get_or, take, drop, sym, refl, ap, ◌∙◌, subst, ap₂, arith, length-append, length-drop}
 use borrow.Rule.Slice.PartMut.{put_mid}
-use Rattle.std.specs.List.{flat_map, AllByRecursion}
-use Rattle.std.proofs.ByRecursion.{All-push, All-take}
+use Rattle.std.specs.List.{flat_map, AllByRecursion, AllWithin, HoldsAt}
+use Rattle.std.proofs.ByRecursion.{All-take}
 use Rattle.std.proofs.lemmas.List.Edits.{paste_all}
+use Rattle.std.proofs.lemmas.Bool.{false≢true}
 use Rattle.std.proofs.lemmas.Slice.{put_mid-paste}
 use Rattle.std.proofs.lemmas.List.{append_assoc, append-nil, drop_all, drop_at, drop-drop, flat_map_more, map-append, map_push, take-append-drop, take_at, take-map, take_more, take_rest}
 use Rattle.commands.specs.declared.command.Command.{Command}
+use Rattle.commands.specs.declared.command.Command.TheVariants.{End}
 use Rattle.commands.specs.Commands.{Said, Whole, bytes, said}
 
 -- the bytes of the first i commands
@@ -32,13 +34,18 @@ upto_le ds i =
 pub length_more : (ds : List Command) (i : ℕ) (d : Command) → i < length ds → length (upto ds (i + 1)) ≡ length (upto ds i) + length (bytes (said (get_or ds i d)))
 length_more ds i d h = ap length (upto_more ds i d h) ∙ length-append (upto ds i) (bytes (said (get_or ds i d)))
 
-pub room_at : (ds : List Command) (i at m k : ℕ) (d : Command) → i < length ds → at ≡ length (upto ds i) → length (flat_map bytes (map said ds)) ≤ m → k ≡ m →
-    at + length (bytes (said (get_or ds i d))) ≤ k
-room_at ds i at m k d h e r q = omega (arith, upto_le ds (i + 1), length_more ds i d h)
+-- the next command has room in the buffer, and in the part of it that is handed out
+pub room_at : (ds : List Command) (i at m k n : ℕ) (d : Command) → i < length ds → at ≡ length (upto ds i) → length (flat_map bytes (map said ds)) ≤ m → k ≡ m →
+    n ≡ length (bytes (said (get_or ds i d))) → at + n ≤ k
+room_at ds i at m k n d h e r q p = omega (arith, upto_le ds (i + 1), length_more ds i d h)
+
+pub room_in_part : (ds : List Command) (i at m : ℕ) (b : List ℕ) (d : Command) → i < length ds → at ≡ length (upto ds i) → length (flat_map bytes (map said ds)) ≤ m → length b ≡ m →
+    length (bytes (said (get_or ds i d))) ≤ length (take (length b - at) (drop at b))
+room_in_part ds i at m b d h e r q = omega (arith, room_at ds i at m (length b) _ d h e r q refl, ap length (take_rest b at), length-drop at b)
 
 -- how much room is left after the first i
 pub rest_more : (ds : List Command) (i room rest : ℕ) (d : Command) (c : Said) → c ≡ said (get_or ds i d) → i < length ds → rest + length (upto ds i) ≡ room → length c.1 < rest →
-    (rest - length c.1 - 1) + length (upto ds (i + 1)) ≡ room
+    (rest - (1 + length c.1)) + length (upto ds (i + 1)) ≡ room
 rest_more ds i room rest d c e h l f = omega (arith, ap (λ (x : Said). length x.1) e, length_more ds i d h)
 
 pub rest_short : (ds : List Command) (i room rest : ℕ) (d : Command) (c : Said) → c ≡ said (get_or ds i d) → i < length ds → rest + length (upto ds i) ≡ room → rest ≤ length c.1 →
@@ -55,11 +62,18 @@ whole_at ds i d h w =
     subst (AllByRecursion Whole) (take-map said (i + 1) ds ∙ said_more ds i d h) (All-take Whole (i + 1) (map said ds) w) in
     last_of (map said (take i ds)) (said (get_or ds i d)) t
 
-pub whole_more : (ds : List Command) (i : ℕ) (d : Command) → i < length ds → AllByRecursion Whole (map said (take i ds)) → Whole (said (get_or ds i d)) → AllByRecursion Whole (map said (take (i + 1) ds))
-whole_more ds i d h a w = subst (AllByRecursion Whole) (sym (said_more ds i d h)) (All-push Whole (map said (take i ds)) (said (get_or ds i d)) a w)
+-- what a test of every command found
+whole_all : (ds : List Command) → AllWithin (λ d. Whole (said d)) ds 0 (length ds) → AllByRecursion Whole (map said ds)
+whole_all [] h = tt
+whole_all (d ∷ ds) h = (h 0 d (omega arith) (omega arith), whole_all ds (λ k e l m. h (suc k) e (omega arith) (omega arith)))
+
+pub whole_decided : (r : Bool) (ds : List Command) → MatchBool r (AllWithin (λ d. Whole (said d)) ds 0 (length ds)) ((k : ℕ) × (k < length ds) × HoldsAt (λ d. Whole (said d) → ⊥) ds k) →
+    Decides r (AllByRecursion Whole (map said ds))
+whole_decided true ds h = (λ _. whole_all ds h, λ _. refl)
+whole_decided false ds h = (λ e. absurd (false≢true e), λ w. absurd (h.2 End (whole_at ds h.0 End h.1 w)))
 
 -- a command written over a part of the buffer, from the index at on
-pub put_part : (u w v : List ℕ) (at n : ℕ) → at + n ≤ length u → n ≡ length w → v ≡ w ++ drop n (take (length u - at) (drop at u)) →
+put_part : (u w v : List ℕ) (at n : ℕ) → at + n ≤ length u → n ≡ length w → v ≡ w ++ drop n (take (length u - at) (drop at u)) →
     put_mid at (length u - at) u v ≡ take at u ++ (w ++ drop (at + n) u)
 put_part u w v at n h l e =
     let r : v ≡ w ++ drop (at + n) u = e ∙ ap (λ (z : List ℕ). w ++ z) (ap (drop n) (take_rest u at) ∙ drop-drop n at u) in
@@ -69,10 +83,19 @@ put_part u w v at n h l e =
     p ∙ (paste_all u at v (length u - at) (sym k) ∙ ap (λ (x : List ℕ). take at u ++ x) (ap (λ (x : List ℕ). v ++ x) z ∙ (append-nil v ∙ r)))
 
 -- one command more
-pub put_more : (u b b' c : List ℕ) (w : List ℕ) (at n : ℕ) → at ≡ length w → n ≡ length c → b ≡ w ++ drop at u → b' ≡ take at b ++ (c ++ drop (at + n) b) →
+put_more : (u b b' c : List ℕ) (w : List ℕ) (at n : ℕ) → at ≡ length w → n ≡ length c → b ≡ w ++ drop at u → b' ≡ take at b ++ (c ++ drop (at + n) b) →
     b' ≡ (w ++ c) ++ drop (at + n) u
 put_more u b b' c w at n l m e h =
     let front : take at b ≡ w = ap (take at) e ∙ take_at w (drop at u) at (sym l) in
     let back : drop at b ≡ drop at u = ap (drop at) e ∙ drop_at w (drop at u) at (sym l) in
     let rest : drop (at + n) b ≡ drop (at + n) u = sym (drop-drop n at b) ∙ (ap (drop n) back ∙ drop-drop n at u) in
     h ∙ (ap₂ (λ (x y : List ℕ). x ++ (c ++ y)) front rest ∙ sym (append_assoc w c (drop (at + n) u)))
+
+pub put_next : (ds : List Command) (i at n : ℕ) (d : Command) (u b v : List ℕ) → i < length ds → n ≡ length (bytes (said (get_or ds i d))) → at ≡ length (upto ds i) → b ≡ upto ds i ++ drop at u →
+    at + n ≤ length b → v ≡ bytes (said (get_or ds i d)) ++ drop n (take (length b - at) (drop at b)) →
+    (at + n ≡ length (upto ds (i + 1))) × (put_mid at (length b - at) b v ≡ upto ds (i + 1) ++ drop (at + n) u)
+put_next ds i at n d u b v l m a e h q =
+    let p = put_part b (bytes (said (get_or ds i d))) v at n h m q in (
+      ap₂ (λ (x y : ℕ). x + y) a m ∙ sym (length_more ds i d l),
+      put_more u b _ (bytes (said (get_or ds i d))) (upto ds i) at n a m e p ∙ ap (λ (w : List ℕ). w ++ drop (at + n) u) (sym (upto_more ds i d l)),
+    )

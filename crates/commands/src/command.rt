@@ -1,4 +1,4 @@
-ghost use Rattle.std.specs.Prelude.{◌≡◌, length, Some, None, MatchOption};
+ghost use Rattle.std.specs.Prelude.{◌≡◌, length, Some};
 ghost use Rattle.commands.specs.Commands.{width_of, said};
 
 /// A command. Each case borrows its operand from the script that it was read from, or from whoever writes it.
@@ -66,34 +66,35 @@ pub fn operand_width(letter: char) -> Option<usize>
     }
 }
 
-/// The command of a letter with its operand, if a command has the letter.
-pub(crate) fn with_operand<'a>(letter: char, operand: &'a [u8]) -> Option<Command<'a>>
+/// The command of a letter with its operand.
+pub(crate) fn with_operand<'a>(letter: char, operand: &'a [u8]) -> Command<'a>
     requires { width_of letter ≡ Some (length operand.now) }
-    ensures { MatchOption result (width_of letter ≡ None) (λ c. said c ≡ (letter, operand.now)) }
+    ensures { said result ≡ (letter, operand.now) }
 {
     match letter {
-        'N' => Some(Command::Dimension(operand)),
-        'L' => Some(Command::Reach(operand)),
-        'P' => Some(Command::ListedRow(operand)),
-        'F' => Some(Command::FlowNodes(operand)),
-        'G' => Some(Command::GraphNodes(operand)),
-        'A' => Some(Command::Arc(operand)),
-        'D' => Some(Command::Balance(operand)),
-        'H' => Some(Command::Classes(operand)),
-        'U' => Some(Command::Class(operand)),
-        'V' => Some(Command::Capacity(operand)),
-        'C' => Some(Command::Price(operand)),
-        'Y' => Some(Command::Units(operand)),
-        'S' => Some(Command::Start(operand)),
-        'Z' => Some(Command::End),
-        'K' => Some(Command::Kind(operand)),
-        'J' => Some(Command::JobNumber(operand)),
-        'X' => Some(Command::Point(operand)),
-        'M' => Some(Command::Cost(operand)),
-        'Q' => Some(Command::Asked(operand)),
-        'I' => Some(Command::Improved(operand)),
-        'E' => Some(Command::Refused(operand)),
-        _ => None,
+        'N' => Command::Dimension(operand),
+        'L' => Command::Reach(operand),
+        'P' => Command::ListedRow(operand),
+        'F' => Command::FlowNodes(operand),
+        'G' => Command::GraphNodes(operand),
+        'A' => Command::Arc(operand),
+        'D' => Command::Balance(operand),
+        'H' => Command::Classes(operand),
+        'U' => Command::Class(operand),
+        'V' => Command::Capacity(operand),
+        'C' => Command::Price(operand),
+        'Y' => Command::Units(operand),
+        'S' => Command::Start(operand),
+        'Z' => Command::End,
+        'K' => Command::Kind(operand),
+        'J' => Command::JobNumber(operand),
+        'X' => Command::Point(operand),
+        'M' => Command::Cost(operand),
+        'Q' => Command::Asked(operand),
+        'I' => Command::Improved(operand),
+        'E' => Command::Refused(operand),
+        // no other letter has a width
+        _ => unreachable(),
     }
 }
 

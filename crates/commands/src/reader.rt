@@ -1,18 +1,10 @@
-ghost use Rattle.std.specs.Prelude.{◌≡◌, ◌+◌, ◌≤◌, length, take, drop};
+ghost use Rattle.std.specs.Prelude.{◌≡◌, ◌≤◌, length};
 ghost use Rattle.commands.specs.Reading.{Next, ReadingLaws, WritesBack};
 
 use crate::command::{Command, operand_width, with_operand};
 use rows::refusals::{Fault, Refusal};
 
-/// A part of some bytes.
-fn part(bytes: &[u8], from: usize, width: usize) -> &[u8]
-    requires { from + width ≤ length bytes.now }
-    ensures { result.now ≡ take width (drop from bytes.now) }
-{
-    &bytes[from..from + width]
-}
-
-/// Hands out the commands of a script, one after the other.
+/// Hands out the commands of a script, one after the other. It keeps the whole script, since places are counted from its start.
 #[derive(Drop)]
 pub struct Reader<'a> {
     script: &'a [u8],
@@ -21,20 +13,13 @@ pub struct Reader<'a> {
 }
 
 impl<'a> Reader<'a> {
-    fn at_start(script: &'a [u8]) -> Reader<'a>
-        ensures script { result.script.now ≡ script.now }
-        ensures start { result.at ≡ 0 }
-    {
-        Reader { script, at: 0 }
-    }
-
     /// A reader at the start of a script.
     pub fn new(script: &'a [u8]) -> Reader<'a>
         ensures script { result.script.now ≡ script.now }
         ensures start { result.at ≡ 0 }
         ensures laws { ReadingLaws script.now }
     {
-        Reader::at_start(script)
+        Reader { script, at: 0 }
     }
 
     /// The place of the next command, the script's length at its end.
@@ -42,8 +27,7 @@ impl<'a> Reader<'a> {
         ensures is { result ≡ self.now.at }
         ensures within { result ≤ length self.now.script.now }
     {
-        let place = self.at;
-        place
+        self.at
     }
 
     /// The next command with its place, or none at the end. A refused reader stays where it is.
@@ -52,24 +36,17 @@ impl<'a> Reader<'a> {
         ensures reads { Next self.old.script.now self.old.at result self.new.at }
         ensures writes_back { WritesBack self.old.script.now self.old.at result self.new.at }
     {
-        let script = self.script;
-        let at = self.at;
-        if at >= script.len() {
+        let Reader { script, at } = *self;
+        let Some((first, rest)) = script[at..].split_first() else {
             return Ok(None);
-        }
-        let letter = script[at] as char;
-        let Some(width) = operand_width(letter) else {
-            return Err(Fault::UnknownLetter.at(at));
         };
-        if script.len() - at - 1 < width {
-            return Err(Fault::Width.at(at));
-        }
-        match with_operand(letter, part(script, at + 1, width)) {
-            Some(command) => {
-                self.at = at + 1 + width;
-                Ok(Some((at, command)))
-            }
-            None => unreachable(),
-        }
+        let letter = char::from(*first);
+        let width = operand_width(letter).ok_or(Fault::UnknownLetter.at(at))?;
+        let operand = rest.get(..width).ok_or(Fault::Width.at(at))?;
+        *self = Reader {
+            script,
+            at: at + 1 + width,
+        };
+        Ok(Some((at, with_operand(letter, operand))))
     }
 }

@@ -1,4 +1,4 @@
-ghost use Rattle.std.specs.Prelude.{◌≡◌, ℕ, ◌+◌, ◌≤◌, ◌++◌, map, length, take, drop, Decides};
+ghost use Rattle.std.specs.Prelude.{◌≡◌, ℕ, ◌+◌, ◌≤◌, ◌++◌, map, length, drop, Decides};
 ghost use Rattle.std.specs.List.{flat_map, AllByRecursion};
 ghost use Rattle.commands.specs.Commands.{Whole, bytes as command_bytes, said};
 ghost use Rattle.commands.specs.Reading.{Put, PutRun};
@@ -12,7 +12,7 @@ impl Command<'_> {
         ensures { Decides result (Whole (said self.now)) }
     {
         let (letter, operand) = self.parts();
-        operand_width(letter as char) == Some(operand.len())
+        operand_width(char::from(letter)) == Some(operand.len())
     }
 
     /// Writes the command to a buffer's start and gives its length; the rest keeps its bytes.
@@ -37,43 +37,33 @@ impl Command<'_> {
 fn all_whole(commands: &[Command<'_>]) -> bool
     ensures { Decides result (AllByRecursion Whole (map said commands.now)) }
 {
-    for i in 0..commands.len() {
-        let command = commands[i];
-        if !command.is_whole() {
-            return false;
-        }
-    }
-    true
+    commands.iter().all(|command| command.is_whole())
 }
 
 /// Whether the commands, one after the other, take at most so many bytes.
 fn fit(commands: &[Command<'_>], room: usize) -> bool
     ensures { Decides result (length (flat_map command_bytes (map said commands.now)) ≤ room) }
 {
+    // taken from the room one by one, as a sum of the lengths could overflow
     let mut rest = room;
-    for i in 0..commands.len() {
-        let command = commands[i];
+    for command in commands {
         let (_, operand) = command.parts();
-        let width = operand.len();
-        if rest <= width {
+        if rest <= operand.len() {
             return false;
         }
-        rest = rest - width - 1;
+        rest -= 1 + operand.len();
     }
     true
 }
 
-/// Writes a command from an index on and gives its length; the rest keeps its bytes.
-fn put(command: &Command<'_>, buffer: &mut [u8], at: usize) -> usize
+/// Writes a command that fits to a buffer's start and gives its length; the rest keeps its bytes.
+fn put(command: &Command<'_>, buffer: &mut [u8]) -> usize
     requires whole { Whole (said command.now) }
-    requires room { at + length (command_bytes (said command.now)) ≤ length buffer.old }
+    requires room { length (command_bytes (said command.now)) ≤ length buffer.old }
     ensures long { result ≡ length (command_bytes (said command.now)) }
-    ensures writes { buffer.new ≡ take at buffer.old ++ (command_bytes (said command.now) ++ drop (at + result) buffer.old) }
+    ensures writes { buffer.new ≡ command_bytes (said command.now) ++ drop result buffer.old }
 {
-    match command.write(&mut buffer[at..]) {
-        Ok(length) => length,
-        Err(_) => unreachable(),
-    }
+    command.write(buffer).unwrap()
 }
 
 /// Writes commands that fit, one after the other, and gives their length.
@@ -84,9 +74,8 @@ fn put_all(commands: &[Command<'_>], buffer: &mut [u8]) -> usize
     ensures writes { buffer.new ≡ flat_map command_bytes (map said commands.now) ++ drop result buffer.old }
 {
     let mut at = 0;
-    for i in 0..commands.len() {
-        let command = commands[i];
-        at += put(&command, buffer, at);
+    for command in commands {
+        at += put(command, &mut buffer[at..]);
     }
     at
 }

@@ -1,5 +1,5 @@
 -- One question put with parts of arrays: what better says of the parts, said of the rows that they are.
-use Rattle.std.proofs.Common.{◌≡◌, ℕ, List, ◌++◌, length, ℤ, Some, None, Ok, Err, sym, subst}
+use Rattle.std.proofs.Common.{◌≡◌, ℕ, List, ◌++◌, length, ℤ, Some, None, Option, Ok, Err, Result, sym, subst}
 use Rattle.std.proofs.lemmas.List.{take_at}
 use Rattle.rows.specs.Points.{Point}
 use Rattle.rows.specs.Refusals.{Passes, RefusedBy}
@@ -29,5 +29,7 @@ module _ (n R : ℕ) (M : List ℕ → Type 0) (ps qs : List ℤ) (x y o o' : Li
       let b = subst A is h in
       (moved (λ ps x m. Passes (checks n R M ps x m)) b.0, moved (λ ps x m. Cheapest M ps x) b.1.0)
 
-  pub put_refused : (f : Refusal) → Better n R M ps x o o' (Err f) → Put n R M qs y (Err f)
-  put_refused f h = moved (λ ps x m. RefusedBy (checks n R M ps x m) f) h.0
+  pub put_refused : (f : Refusal) (r : Result (Option (List ℕ)) Refusal) → r ≡ Err f → Better n R M ps x o o' (Err f) → Put n R M qs y r
+  put_refused f r e h =
+      let P : Result (Option (List ℕ)) Refusal → Type 0 = λ z. Put n R M qs y z in
+      subst P (sym e) (moved (λ ps x m. RefusedBy (checks n R M ps x m) f) h.0)

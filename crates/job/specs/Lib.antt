@@ -4,3 +4,4 @@ pub mod Tickets
 pub mod Soundness
 pub mod Tries
 pub mod Jobs
+pub mod Steps

@@ -25,12 +25,9 @@ fn put<A: Augmenter>(
     let n = below.dimension();
     let row = row_at_plane(prices, plane);
     let mut next = [0u8; 128];
-    match below.better(&row[0..n], &point[0..n], &mut next[0..n]) {
-        Ok(answer) => match answer {
-            Answer::Found => Ok(Some(next)),
-            Answer::Nothing => Ok(None),
-        },
-        Err(refusal) => Err(refusal),
+    match below.better(&row[..n], &point[..n], &mut next[..n])? {
+        Answer::Found => Ok(Some(next)),
+        Answer::Nothing => Ok(None),
     }
 }
 
@@ -46,10 +43,7 @@ fn blank_ledger() -> Ledger
     ensures { result.lines ≡ blank_ledger }
 {
     Ledger {
-        lines: [Line {
-            asked: 0,
-            improved: 0,
-        }; 40],
+        lines: [Line::default(); 40],
     }
 }
 
@@ -82,9 +76,9 @@ fn count(line: &mut Line, found: bool)
 impl<A: Augmenter> Job<A> {
     /// A job over an augmenter, with a number of the maker's; it has not begun.
     pub fn new(below: A, number: u32) -> Job<A>
-        ensures fresh { view A.dim result ≡ blank number (A.dim below) }
+        ensures fresh { view result ≡ blank number (A.dim below) }
         ensures below { result.below ≡ below }
-        ensures sound { SoundJob A.dim A.reaches A.Member result }
+        ensures sound { SoundJob result }
     {
         Job {
             below,
@@ -92,12 +86,7 @@ impl<A: Augmenter> Job<A> {
             state: State::NotBegun,
             point: zeros(0),
             prices: zeros(0),
-            totals: Totals {
-                asked: 0,
-                improved: 0,
-                closed: 0,
-                rows: 0,
-            },
+            totals: Totals::default(),
             ledger: blank_ledger(),
             ticketing: Ticketing::Unissued,
         }
@@ -107,7 +96,7 @@ impl<A: Augmenter> Job<A> {
     fn place(&mut self, point: &[u8])
         requires { length point.now ≡ A.dim self.old.below }
         ensures below { self.new.below ≡ self.old.below }
-        ensures after { view A.dim self.new ≡ placed (view A.dim self.old) point.now }
+        ensures after { view self.new ≡ placed (view self.old) point.now }
     {
         self.point = padded(point, 0);
     }
@@ -116,7 +105,7 @@ impl<A: Augmenter> Job<A> {
     fn keep(&mut self, prices: &[i64])
         requires { length prices.now ≡ A.dim self.old.below }
         ensures below { self.new.below ≡ self.old.below }
-        ensures after { view A.dim self.new ≡ priced (view A.dim self.old) prices.now }
+        ensures after { view self.new ≡ priced (view self.old) prices.now }
     {
         self.prices = padded(prices, 0);
     }
@@ -126,7 +115,7 @@ impl<A: Augmenter> Job<A> {
         requires long { length prices.now ≡ A.dim self.old.below }
         requires light { weight prices.now < 2 ^ 40 }
         ensures below { self.new.below ≡ self.old.below }
-        ensures after { view A.dim self.new ≡ accepted (view A.dim self.old) (view A.dim self.old).point prices.now }
+        ensures after { view self.new ≡ accepted (view self.old) (view self.old).point prices.now }
     {
         self.keep(prices);
         self.totals.rows = self.totals.rows.saturating_add(1);
@@ -138,8 +127,8 @@ impl<A: Augmenter> Job<A> {
     /// Begins with a start, which must be a member, and a price row.
     pub fn begin(&mut self, start: &[u8], prices: &[i64]) -> Result<(), Refusal>
         ensures below { self.new.below ≡ self.old.below }
-        ensures moves { BeganBy A.dim A.reaches A.Member self.old start.now prices.now result self.new }
-        ensures keeps { BeginKeepsBy A.dim A.reaches A.Member self.old prices.now result self.new }
+        ensures moves { BeganBy self.old start.now prices.now result self.new }
+        ensures keeps { BeginKeepsBy self.old prices.now result self.new }
     {
         let State::NotBegun = self.state else {
             return Err(Fault::Begun.at(0));
@@ -151,7 +140,7 @@ impl<A: Augmenter> Job<A> {
     fn start(&mut self, start: &[u8], prices: &[i64]) -> Result<(), Refusal>
         requires { self.old.state ≡ NotBegun }
         ensures below { self.new.below ≡ self.old.below }
-        ensures moves { BeganBy A.dim A.reaches A.Member self.old start.now prices.now result self.new }
+        ensures moves { BeganBy self.old start.now prices.now result self.new }
     {
         let n = self.below.dimension();
         shared_checks(n, self.below.reach(), prices, start, n)?;
@@ -166,8 +155,8 @@ impl<A: Augmenter> Job<A> {
     /// Puts one question with the row at the open plane: the point is improved, or the plane is closed.
     pub fn advance(&mut self) -> Result<Step, Refusal>
         ensures below { self.new.below ≡ self.old.below }
-        ensures moves { AdvancedBy A.dim A.reaches A.Member self.old result self.new }
-        ensures keeps { AdvanceKeepsBy A.dim A.reaches A.Member self.old result self.new }
+        ensures moves { AdvancedBy self.old result self.new }
+        ensures keeps { AdvanceKeepsBy self.old result self.new }
     {
         match self.state {
             State::NotBegun => Err(Fault::NotBegun.at(0)),
@@ -179,7 +168,7 @@ impl<A: Augmenter> Job<A> {
     /// Takes a new price row, with the point kept; a ticket still out is out no longer.
     pub fn reprice(&mut self, prices: &[i64]) -> Result<(), Refusal>
         ensures below { self.new.below ≡ self.old.below }
-        ensures moves { RepricedBy A.dim A.reaches self.old prices.now result self.new }
+        ensures moves { RepricedBy self.old prices.now result self.new }
     {
         if let State::NotBegun = self.state {
             return Err(Fault::NotBegun.at(0));
@@ -201,7 +190,7 @@ impl<A: Augmenter> Job<A> {
     fn ask(&mut self, at: u32) -> Result<Step, Refusal>
         requires { Opens self.old.state at }
         ensures below { self.new.below ≡ self.old.below }
-        ensures moves { AdvancedBy A.dim A.reaches A.Member self.old result self.new }
+        ensures moves { AdvancedBy self.old result self.new }
     {
         let answer = put(&self.below, &self.prices, &self.point, at)?;
         self.totals.asked = self.totals.asked.saturating_add(1);

@@ -11,6 +11,7 @@ pub struct Job<A: Augmenter> {
     pub(crate) below: A,
     pub(crate) number: u32,
     pub(crate) state: State,
+    /// point and prices are rows of the dimension below, in fixed memory since nothing allocates
     pub(crate) point: Padded<u8>,
     pub(crate) prices: Padded<i64>,
     pub(crate) totals: Totals,

@@ -1,3 +1,9 @@
+ghost use Rattle.std.specs.Prelude.{Some};
+ghost use Rattle.std.specs.Fmt.{styled_text};
+ghost use Rattle.job.specs.Steps.{step_name};
+
+use std::fmt;
+
 /// How far a job is.
 #[derive(Clone, Copy, PartialEq, Eq, Debug)]
 pub enum State {
@@ -18,8 +24,22 @@ pub enum Step {
     Done,
 }
 
+impl fmt::Display for Step {
+    ghost output = { λ s. Some (step_name s) };
+
+    ghost styled_output = { λ s o. Some (styled_text o (step_name s)) };
+
+    fn fmt<W: fmt::Write>(&self, f: &mut fmt::Formatter<W>) -> fmt::Result {
+        f.pad(match self {
+            Step::Improved => "improved",
+            Step::Closed => "closed",
+            Step::Done => "finished",
+        })
+    }
+}
+
 /// What a job counts since its making.
-#[derive(Clone, Copy, PartialEq, Eq, Debug)]
+#[derive(Clone, Copy, PartialEq, Eq, Debug, Default)]
 pub struct Totals {
     /// questions put to the augmenter
     pub asked: u32,
@@ -32,20 +52,20 @@ pub struct Totals {
 }
 
 /// What a job counts at one plane of its present row.
-#[derive(Clone, Copy, PartialEq, Eq, Debug)]
+#[derive(Clone, Copy, PartialEq, Eq, Debug, Default)]
 pub struct Line {
     pub asked: u32,
     pub improved: u32,
 }
 
 /// A line for each plane that a row within the largest reach can have.
-#[derive(Clone, Copy)]
+#[derive(Clone, Copy, PartialEq, Eq, Debug)]
 pub struct Ledger {
     pub lines: [Line; 40],
 }
 
 /// What became of the ticket for the present row.
-#[derive(Clone, Copy)]
+#[derive(Clone, Copy, PartialEq, Eq, Debug)]
 pub enum Ticketing {
     /// no ticket is out, and the row's plan is not written
     Unissued,

@@ -14,14 +14,7 @@ use rows::prices::{ones_below, remainders};
 fn line_at(lines: &[Line], plane: usize) -> Line
     ensures { result ≡ slice_index_or lines.now plane blank_line }
 {
-    if plane < lines.len() {
-        lines[plane]
-    } else {
-        Line {
-            asked: 0,
-            improved: 0,
-        }
-    }
+    lines.get(plane).copied().unwrap_or_default()
 }
 
 fn power(plane: u32) -> u64
@@ -71,16 +64,16 @@ impl<A: Augmenter> Job<A> {
 
     /// What was counted at a plane of the present row; planes above 39 read as zeros.
     pub fn line(&self, plane: u32) -> Line
-        ensures { result ≡ slice_index_or (view A.dim self.now).ledger plane blank_line }
+        ensures { result ≡ slice_index_or (view self.now).ledger plane blank_line }
     {
         line_at(&self.ledger.lines, plane as usize)
     }
 
     /// The job's point, a row of zeros before it has begun.
     pub fn point(&self) -> &[u8]
-        ensures is { result.now ≡ (view A.dim self.now).point }
-        ensures member { SoundJob A.dim A.reaches A.Member self.now → IsBegun self.now.state → A.Member self.now.below result.now }
-        ensures cheapest { SoundJob A.dim A.reaches A.Member self.now → self.now.state ≡ Finished → Cheapest (A.Member self.now.below) (view A.dim self.now).prices result.now }
+        ensures is { result.now ≡ (view self.now).point }
+        ensures member { SoundJob self.now → IsBegun self.now.state → A.Member self.now.below result.now }
+        ensures cheapest { SoundJob self.now → self.now.state ≡ Finished → Cheapest (A.Member self.now.below) (view self.now).prices result.now }
     {
         let n = self.below.dimension();
         &self.point[..n]
@@ -88,7 +81,7 @@ impl<A: Augmenter> Job<A> {
 
     /// The present price row, a row of zeros before the job has begun.
     pub fn prices(&self) -> &[i64]
-        ensures { result.now ≡ (view A.dim self.now).prices }
+        ensures { result.now ≡ (view self.now).prices }
     {
         let n = self.below.dimension();
         &self.prices[..n]
@@ -96,8 +89,8 @@ impl<A: Augmenter> Job<A> {
 
     /// By how much a member can be cheaper than the job's point at most, 0 unless a plane is open.
     pub fn margin(&self) -> u128
-        ensures is { result ≡ margin_at (view A.dim self.now).prices self.now.state }
-        ensures near { SoundJob A.dim A.reaches A.Member self.now → IsBegun self.now.state → Near (A.Member self.now.below) (view A.dim self.now) result }
+        ensures is { result ≡ margin_at (view self.now).prices self.now.state }
+        ensures near { SoundJob self.now → IsBegun self.now.state → Near (A.Member self.now.below) (view self.now) result }
     {
         match self.state {
             State::Open { plane, improved } => open_margin(self.prices(), plane, improved),
@@ -107,7 +100,7 @@ impl<A: Augmenter> Job<A> {
 
     /// The most questions still to come for the present row, 0 unless a plane is open.
     pub fn questions_left(&self) -> u128
-        ensures { result ≡ left (view A.dim self.now) }
+        ensures { result ≡ left (view self.now) }
     {
         match self.state {
             State::Open { plane, improved } => open_left(self.prices(), plane, improved),

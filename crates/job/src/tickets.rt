@@ -1,6 +1,5 @@
-ghost use Rattle.std.specs.Prelude.{◌≡◌, ℕ, Decides};
-ghost use Rattle.job.specs.Jobs.{view};
-ghost use Rattle.job.specs.Tickets.{Issued, Valid, Wrote, Withdrew, WrotePlan, plan_of};
+ghost use Rattle.std.specs.Prelude.{◌≡◌, Decides};
+ghost use Rattle.job.specs.Jobs.{IssuedBy, ValidBy, WroteBy, WithdrewBy, WrotePlanBy, plan_by};
 
 use crate::job::Job;
 use crate::parts::{State, Ticket, Ticketing};
@@ -14,7 +13,7 @@ impl<A: Augmenter> Job<A> {
     /// Gives the ticket for the present row of a finished job.
     pub fn issue(&mut self) -> Result<Ticket, Refusal>
         ensures below { self.new.below ≡ self.old.below }
-        ensures moves { Issued (view A.dim self.old) result (view A.dim self.new) }
+        ensures moves { IssuedBy self.old result self.new }
     {
         match self.state {
             State::NotBegun => return Err(Fault::NotBegun.at(0)),
@@ -34,7 +33,7 @@ impl<A: Augmenter> Job<A> {
 
     /// What the job's plan says.
     fn plan(&self) -> Plan
-        ensures { result ≡ plan_of A.kind (A.dim self.now.below) (view A.dim self.now) }
+        ensures { result ≡ plan_by self.now }
     {
         Plan {
             kind: A::letter(),
@@ -49,7 +48,7 @@ impl<A: Augmenter> Job<A> {
 
     /// Whether a ticket is the one that the job has out.
     fn has_out(&self, number: u32, row: u32) -> bool
-        ensures { Decides result (Valid (view A.dim self.now) number row) }
+        ensures { Decides result (ValidBy self.now number row) }
     {
         match self.ticketing {
             Ticketing::Out => number == self.number && row == self.totals.rows,
@@ -60,7 +59,7 @@ impl<A: Augmenter> Job<A> {
     /// Writes the plan to a buffer's start, for the ticket; the rest of the buffer keeps its bytes.
     pub fn write(&mut self, ticket: Ticket, buffer: &mut [u8]) -> Result<(), (Ticket, Refusal)>
         ensures below { self.new.below ≡ self.old.below }
-        ensures moves { Wrote A.kind (A.dim self.old.below) (view A.dim self.old) ticket.number ticket.row buffer.old result (view A.dim self.new) buffer.new }
+        ensures moves { WroteBy self.old ticket.number ticket.row buffer.old result self.new buffer.new }
     {
         if !self.has_out(ticket.number, ticket.row) {
             return Err((ticket, Fault::WrongTicket.at(0)));
@@ -78,7 +77,7 @@ impl<A: Augmenter> Job<A> {
     /// Gives a ticket back unwritten.
     pub fn withdraw(&mut self, ticket: Ticket)
         ensures below { self.new.below ≡ self.old.below }
-        ensures moves { Withdrew (view A.dim self.old) ticket.number ticket.row (view A.dim self.new) }
+        ensures moves { WithdrewBy self.old ticket.number ticket.row self.new }
     {
         let Ticket { number, row } = ticket;
         if self.has_out(number, row) {
@@ -89,17 +88,15 @@ impl<A: Augmenter> Job<A> {
     /// Issues the ticket for the present row and writes its plan with it; where the buffer is too short, the ticket is withdrawn.
     pub fn write_plan(&mut self, buffer: &mut [u8]) -> Result<(), Refusal>
         ensures below { self.new.below ≡ self.old.below }
-        ensures moves { WrotePlan A.kind (A.dim self.old.below) (view A.dim self.old) buffer.old result (view A.dim self.new) buffer.new }
+        ensures moves { WrotePlanBy self.old buffer.old result self.new buffer.new }
     {
-        match self.issue() {
-            Ok(ticket) => match self.write(ticket, buffer) {
-                Ok(()) => Ok(()),
-                Err((back, _)) => {
-                    self.withdraw(back);
-                    Err(Fault::ShortBuffer.at(0))
-                }
-            },
-            Err(refusal) => Err(refusal),
+        let ticket = self.issue()?;
+        match self.write(ticket, buffer) {
+            Ok(()) => Ok(()),
+            Err((back, refusal)) => {
+                self.withdraw(back);
+                Err(refusal)
+            }
         }
     }
 }

@@ -1,6 +1,5 @@
-ghost use Rattle.std.specs.Prelude.{◌≡◌, ℕ, ◌≤◌, List};
-ghost use Rattle.job.specs.Jobs.{view};
-ghost use Rattle.job.specs.Tries.{TriedCall, TriedWrite, row_outcome, step_outcome, issue_outcome, write_outcome};
+ghost use Rattle.std.specs.Prelude.{◌≡◌};
+ghost use Rattle.job.specs.Jobs.{TriedBy, TriedWriteBy};
 
 use crate::job::Job;
 use crate::parts::{Step, Ticket};
@@ -20,8 +19,8 @@ pub enum Call<'a> {
     Withdraw { number: u32, row: u32 },
 }
 
-/// What came of a call.
-#[derive(Clone, Copy)]
+/// What came of a call that is not refused.
+#[derive(Clone, Copy, PartialEq, Eq, Debug)]
 pub enum Outcome {
     /// begin or reprice took the row
     Accepted,
@@ -30,53 +29,13 @@ pub enum Outcome {
     /// the plan, as it was written
     Written([u8; 46]),
     Withdrawn,
-    Refused(Refusal),
-}
-
-fn of_row(r: Result<(), Refusal>) -> Outcome
-    ensures { result ≡ row_outcome r }
-{
-    match r {
-        Ok(()) => Outcome::Accepted,
-        Err(e) => Outcome::Refused(e),
-    }
-}
-
-fn of_step(r: Result<Step, Refusal>) -> Outcome
-    ensures { result ≡ step_outcome r }
-{
-    match r {
-        Ok(step) => Outcome::Advanced(step),
-        Err(e) => Outcome::Refused(e),
-    }
-}
-
-fn of_issue(r: Result<Ticket, Refusal>) -> Outcome
-    ensures { result ≡ issue_outcome r }
-{
-    match r {
-        Ok(ticket) => {
-            let Ticket { number, row } = ticket;
-            Outcome::Issued { number, row }
-        }
-        Err(e) => Outcome::Refused(e),
-    }
-}
-
-fn of_write(r: Result<[u8; 46], Refusal>) -> Outcome
-    ensures { result ≡ write_outcome r }
-{
-    match r {
-        Ok(bytes) => Outcome::Written(bytes),
-        Err(e) => Outcome::Refused(e),
-    }
 }
 
 impl<A: Augmenter> Job<A> {
     /// Writes with the ticket of a pair into a buffer of `room` bytes, of which a plan takes 46.
     fn try_write(&mut self, number: u32, row: u32, room: usize) -> Result<[u8; 46], Refusal>
         ensures below { self.new.below ≡ self.old.below }
-        ensures moves { TriedWrite A.kind (A.dim self.old.below) (view A.dim self.old) number row room result (view A.dim self.new) }
+        ensures moves { TriedWriteBy self.old number row room result self.new }
     {
         let mut bytes = [0u8; 46];
         match self.write(Ticket { number, row }, &mut bytes[0..room.min(46)]) {
@@ -89,22 +48,34 @@ impl<A: Augmenter> Job<A> {
     }
 
     /// Tries one call.
-    pub fn try_call(&mut self, call: &Call<'_>) -> Outcome
+    pub fn try_call(&mut self, call: &Call<'_>) -> Result<Outcome, Refusal>
         ensures below { self.new.below ≡ self.old.below }
-        ensures moves { TriedCall A.kind (A.dim self.old.below) (A.reaches self.old.below) (A.Member self.old.below) (view A.dim self.old) call.now result (view A.dim self.new) }
+        ensures moves { TriedBy self.old call.now result self.new }
     {
+        // calls are data and not closures, so that promises can speak of every list of them
         match call {
-            Call::Begin { start, prices } => of_row(self.begin(start, prices)),
-            Call::Advance => of_step(self.advance()),
-            Call::Reprice { prices } => of_row(self.reprice(prices)),
-            Call::Issue => of_issue(self.issue()),
-            Call::Write { number, row, room } => of_write(self.try_write(*number, *row, *room)),
+            Call::Begin { start, prices } => {
+                self.begin(start, prices)?;
+                Ok(Outcome::Accepted)
+            }
+            Call::Advance => Ok(Outcome::Advanced(self.advance()?)),
+            Call::Reprice { prices } => {
+                self.reprice(prices)?;
+                Ok(Outcome::Accepted)
+            }
+            Call::Issue => {
+                let Ticket { number, row } = self.issue()?;
+                Ok(Outcome::Issued { number, row })
+            }
+            Call::Write { number, row, room } => {
+                Ok(Outcome::Written(self.try_write(*number, *row, *room)?))
+            }
             Call::Withdraw { number, row } => {
                 self.withdraw(Ticket {
                     number: *number,
                     row: *row,
                 });
-                Outcome::Withdrawn
+                Ok(Outcome::Withdrawn)
             }
         }
     }

@@ -12,7 +12,8 @@ ghost use Rattle.std.proofs.Common.{rules};
 use augmenter::answers::Answer;
 use augmenter::{Augmenter, shared_checks};
 use rows::packed::{Packed, pack, stray_bit, unpack};
-use rows::points::{bad_mark, padded};
+use rows::packed_rows::PackedRows;
+use rows::points::bad_mark;
 use rows::prices::price;
 use rows::refusals::{Fault, Refusal};
 
@@ -24,37 +25,28 @@ pub const LARGEST_REACH: u64 = 0xff_ffff_ffff;
 pub struct Listed {
     n: usize,
     limit: u64,
-    count: usize,
-    rows: [Packed; 256],
+    rows: PackedRows,
     ghost small: { n ≤ 128 },
     ghost near: { limit < 2 ^ 40 },
-    ghost few: { count ≤ 256 },
-    ghost clear: { (k i : ℕ) → (k < count) × (n ≤ i) → bit_at (slice_index_or rows k []) i ≡ 0 },
+    ghost clear: { ClearRows n (take rows.count rows.slots) },
 }
 
 /// The index of the first row with a bit from coordinate `n` on, if there is one.
 fn stray_row(rows: &[Packed], n: usize) -> Option<usize>
     ensures { MatchOption result (ClearRows n rows.now) (λ k. StrayRow n rows.now k) }
 {
-    for (k, row) in rows.iter().enumerate() {
-        if stray_bit(row, n).is_some() {
-            return Some(k);
-        }
-    }
-    None
+    rows.iter().position(|row| stray_bit(row, n).is_some())
 }
 
 impl Listed {
     /// The set of the listed points of dimension `n`, for price rows of weight up to `reach`.
     pub fn new(n: usize, reach: u64, rows: &[Packed]) -> Result<Listed, Refusal>
-        ensures { MatchResult result (λ l. Passes (making_checks n reach rows.now) × (l.n ≡ n) × (l.limit ≡ reach) × (take l.count l.rows ≡ rows.now)) (λ e. RefusedBy (making_checks n reach rows.now) e) }
+        ensures { MatchResult result (λ l. Passes (making_checks n reach rows.now) × (l.n ≡ n) × (l.limit ≡ reach) × (take l.rows.count l.rows.slots ≡ rows.now)) (λ e. RefusedBy (making_checks n reach rows.now) e) }
     {
         if n > 128 {
             return Err(Fault::Dimension.at(0));
         }
-        if rows.len() > 256 {
-            return Err(Fault::TooMany.at(0));
-        }
+        let kept = PackedRows::of(rows).ok_or(Fault::TooMany.at(0))?;
         if reach > LARGEST_REACH {
             return Err(Fault::Reach.at(0));
         }
@@ -64,22 +56,9 @@ impl Listed {
         Ok(Listed {
             n,
             limit: reach,
-            count: rows.len(),
-            rows: padded(rows, [0; 16]),
+            rows: kept,
         })
     }
-}
-
-/// Whether a packed point is one of the rows.
-fn has_row(rows: &[Packed], sought: &Packed) -> bool
-    ensures { Decides result ((k : ℕ) × (k < length rows.now) × (slice_index_or rows.now k [] ≡ sought.now)) }
-{
-    for row in rows {
-        if row == sought {
-            return true;
-        }
-    }
-    false
 }
 
 /// The price of a packed point of the price row's dimension.
@@ -98,12 +77,8 @@ fn first_cheaper(rows: &[Packed], prices: &[i64], limit: i128) -> Option<usize>
     requires { length prices.now ≤ 128 }
     ensures { MatchOption result ((k : ℕ) → k < length rows.now → limit ≤ℤ price prices.now (unpacked (length prices.now) (slice_index_or rows.now k []))) (λ k. (k < length rows.now) × (price prices.now (unpacked (length prices.now) (slice_index_or rows.now k [])) <ℤ limit)) }
 {
-    for k in 0..rows.len() {
-        if packed_price(&rows[k], prices) < limit {
-            return Some(k);
-        }
-    }
-    None
+    rows.iter()
+        .position(|row| packed_price(row, prices) < limit)
 }
 
 /// Writes the first row that is cheaper than the point to the output row, if there is one.
@@ -131,7 +106,7 @@ impl Augmenter for Listed {
 
     ghost reaches = { λ a. a.limit };
 
-    ghost Member = { λ a x. ListedIn a.n (take a.count a.rows) x };
+    ghost Member = { λ a x. ListedIn a.n (take a.rows.count a.rows.slots) x };
 
     ghost dim_fits = { Prim.search rules };
 
@@ -155,7 +130,7 @@ impl Augmenter for Listed {
         if row.len() != self.n || bad_mark(row).is_some() {
             return false;
         }
-        has_row(&self.rows[0..self.count], &pack(row))
+        self.rows.as_slice().contains(&pack(row))
     }
 
     fn better(&self, prices: &[i64], point: &[u8], out: &mut [u8]) -> Result<Answer, Refusal> {
@@ -163,6 +138,6 @@ impl Augmenter for Listed {
         if !self.belongs(point) {
             return Err(Fault::NotMember.at(0));
         }
-        Ok(write_cheaper(&self.rows[0..self.count], prices, point, out))
+        Ok(write_cheaper(self.rows.as_slice(), prices, point, out))
     }
 }

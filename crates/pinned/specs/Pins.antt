@@ -1,10 +1,11 @@
 -- Pinned sets: the members of a set below that agree with a row of pins; an entry 0 or 1 pins its coordinate, 2 leaves it free.
 -- n is the dimension, R the reach below, M says which rows are members below, s is the row of pins, x a row, ps are prices.
-use Rattle.std.specs.Prelude.{◌≡◌, ℕ, zero, suc, ◌+◌, ◌-◌, ◌/◌, ◌<◌, ◌≤◌, List, [], ◌∷◌, length, ℤ, pos, neg_ℤ, sum_by, slice_index}
+use Rattle.std.specs.Prelude.{◌≡◌, ℕ, zero, suc, ◌+◌, ◌-◌, ◌/◌, ◌<◌, ◌≤◌, List, [], ◌∷◌, ◌++◌, length, ℤ, pos, neg_ℤ, sum_by, slice_index}
 use Rattle.std.specs.Simd.Lanes.{zip2}
 use Rattle.rows.specs.Prices.{weight}
-use Rattle.rows.specs.Refusals.{Check, ask, ask_at}
-use Rattle.rows.specs.declared.refusals.Fault.TheVariants.{Length, Mark, Pins}
+use Rattle.rows.specs.Refusals.{Check, ask}
+use Rattle.rows.specs.declared.refusals.Fault.TheVariants.{Pins}
+use Rattle.augmenter.specs.Questions.{row_checks}
 
 -- x agrees with every 0 and every 1 of s
 abbrev pub Keeps : List ℕ → List ℕ → Type 0
@@ -40,14 +41,6 @@ asked_prices k ps s = zip2 (asked k) ps s
 abbrev pub prices_below : List ℤ → List ℕ → List ℤ
 prices_below ps s = asked_prices (weight ps + 1) ps s
 
--- every byte is 0, 1 or 2
-abbrev pub PinRow : List ℕ → Type 0
-PinRow s = (i : ℕ) → i < length s → slice_index s i ≤ 2
-
--- i is the index of the first byte above 2
-abbrev pub BadPin : List ℕ → ℕ → Type 0
-BadPin s i = (i < length s) × (2 < slice_index s i) × ((k : ℕ) → k < i → slice_index s k ≤ 2)
-
 -- the checks of a making, in their order
 abbrev pub making_checks : ℕ → ℕ → List ℕ → List Check
-making_checks n R s = ask Length (length s ≡ n) ∷ ask_at Mark (PinRow s) (BadPin s) ∷ ask Pins (pin_count s ≤ R) ∷ []
+making_checks n R s = row_checks n 2 s ++ (ask Pins (pin_count s ≤ R) ∷ [])

@@ -7,11 +7,11 @@ ghost use Rattle.std.specs.Prelude.{◌≡◌, ◌^◌, ◌<◌, ◌≤◌, leng
 ghost use Rattle.rows.specs.Prices.{weight};
 ghost use Rattle.rows.specs.Refusals.{Passes, RefusedBy};
 ghost use Rattle.augmenter.specs.Questions.{Screened};
-ghost use Rattle.pinned.specs.Pins.{Keeps, PinnedIn, is_pin, pin_count, reach_over, asked, asked_prices, prices_below, PinRow, BadPin, making_checks};
+ghost use Rattle.pinned.specs.Pins.{Keeps, PinnedIn, is_pin, pin_count, reach_over, asked, asked_prices, prices_below, making_checks};
 ghost use Rattle.std.proofs.Common.{rules};
 
 use augmenter::answers::Answer;
-use augmenter::{Augmenter, shared_checks};
+use augmenter::{Augmenter, check_row, shared_checks};
 use rows::points::{Padded, padded};
 use rows::prices::weight;
 use rows::refusals::{Fault, Refusal};
@@ -20,19 +20,8 @@ use rows::refusals::{Fault, Refusal};
 #[derive(Drop)]
 pub struct Pinned<A> {
     below: A,
+    /// a row of the dimension below, in fixed memory since nothing allocates
     pins: Padded<u8>,
-}
-
-/// The index of the first byte above 2, if there is one.
-fn bad_pin(row: &[u8]) -> Option<usize>
-    ensures { MatchOption result (PinRow row.now) (λ i. BadPin row.now i) }
-{
-    for (i, b) in row.iter().enumerate() {
-        if *b > 2 {
-            return Some(i);
-        }
-    }
-    None
 }
 
 /// One for a pin, nothing for a free coordinate.
@@ -40,7 +29,7 @@ fn one_pin(entry: u8) -> u64
     ensures is { result ≡ is_pin entry }
     ensures one { result ≤ 1 }
 {
-    if entry <= 1 { 1 } else { 0 }
+    u64::from(entry <= 1)
 }
 
 /// The number of pins of a row.
@@ -59,12 +48,7 @@ fn count_pins(row: &[u8]) -> u64
 fn check_pins(n: usize, reach: u64, pins: &[u8]) -> Result<(), Refusal>
     ensures { Screened (making_checks n reach pins.now) result }
 {
-    if pins.len() != n {
-        return Err(Fault::Length.at(0));
-    }
-    if let Some(place) = bad_pin(pins) {
-        return Err(Fault::Mark.at(place));
-    }
+    check_row(n, pins, 2)?;
     if reach < count_pins(pins) {
         return Err(Fault::Pins.at(0));
     }
@@ -96,12 +80,9 @@ fn keeps(pins: &[u8], row: &[u8]) -> bool
     requires { length row.now ≡ length pins.now }
     ensures { Decides result (Keeps pins.now row.now) }
 {
-    for i in 0..pins.len() {
-        if !keeps_pin(pins[i], row[i]) {
-            return false;
-        }
-    }
-    true
+    pins.iter()
+        .zip(row)
+        .all(|(pin, mark)| keeps_pin(*pin, *mark))
 }
 
 /// The reach over a reach below: the weight of a question with its penalties stays within that.
@@ -131,8 +112,9 @@ fn ask_prices(prices: &[i64], pins: &[u8], penalty: u64, out: &mut [i64])
     requires light { penalty ≤ 2 ^ 40 }
     ensures { out.new ≡ asked_prices penalty prices.now pins.now }
 {
-    for i in 0..prices.len() {
-        out[i] = ask_price(prices[i], pins[i], penalty);
+    // an index for the rows that are read: of an `iter_mut` that is zipped nothing is known after the loop
+    for (i, asked) in out.iter_mut().enumerate() {
+        *asked = ask_price(prices[i], pins[i], penalty);
     }
 }
 
@@ -163,6 +145,7 @@ impl<A: Augmenter> Augmenter for Pinned<A> {
 
     ghost member_is_point = { λ a x m. A.member_is_point a.below x m.0 };
 
+    // As the set below, like the dimension: a default body in the trait could not be proved, where constants are opaque.
     fn letter() -> u8 {
         A::letter()
     }

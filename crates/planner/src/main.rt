@@ -1,6 +1,7 @@
 //! The planner: a script on standard input, its plan or one refusal on standard output.
 #![tactic(auto)]
 
+use planning::answer::bytes;
 use planning::answering::answer;
 use std::io;
 use std::io::{Read, Write};
@@ -11,5 +12,5 @@ const MOST: u64 = 65_537;
 fn main(rt: HostRuntime) -> io::Result<()> {
     let mut script = Vec::new(rt.alloc());
     rt.stdin().take(MOST).read_to_end(&mut script)?;
-    rt.stdout().write_all(answer(script.as_slice()).bytes())
+    rt.stdout().write_all(bytes(&answer(script.as_slice())))
 }

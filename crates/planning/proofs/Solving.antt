@@ -1,5 +1,5 @@
 -- What a script describes can be made into a set, and of a beginning's checks only weight and membership can still refuse it.
-use Rattle.std.proofs.Common.{◌≡◌, ℕ, zero, suc, ◌^◌, ◌<◌, true, false, cond, eqb, List, [], ◌∷◌, ◌++◌, length, ℤ, Ok, Err, Result, sym, refl, ap, ◌∙◌, subst, inl, inr, ⊎_elim, arith, length-take}
+use Rattle.std.proofs.Common.{◌≡◌, ℕ, zero, suc, ◌^◌, ◌<◌, true, false, cond, eqb, List, [], ◌∷◌, ◌++◌, length, ℤ, Ok, Err, MatchResult, Result, sym, refl, ap, ◌∙◌, subst, inl, inr, ⊎_elim, arith, length-take}
 use Rattle.std.specs.Int.Digits.{number_from_digits}
 use Rattle.std.proofs.lemmas.List.{append_assoc, length-take-le}
 use Rattle.std.proofs.lemmas.Bool.{cases_Bool, eqb-true}
@@ -14,9 +14,10 @@ use Rattle.augmenter.specs.Questions.{Lengths}
 use Rattle.commands.specs.Commands.{Said}
 use Rattle.listed.specs.Lists.{ClearRows, ListedIn, making_checks}
 use Rattle.runs.specs.Planning.{PlanOf}
-use Rattle.script.specs.Scripts.{Begins, Describes, InOrder, Last, Means, dimension_of, rows_of}
+use Rattle.script.specs.Scripts.{Begins, Describes, InOrder, Last, Means, dimension_of, listed_rows, rows_of}
 use Rattle.script.specs.declared.problem.Problem.{Problem}
-use Rattle.planning.specs.Answers.{Member, Solved, Solves, prices_in, rows_in, start_checks, start_in}
+use Rattle.planning.specs.Bytes.{Answer, refusal_bytes}
+use Rattle.planning.specs.Answers.{Answers, Member, Solved, Solves, prices_in, start_checks, start_in}
 
 -- a row of marks has no bad one
 no_bad : (x : List ℕ) (i : ℕ) → Marks x → BadMark x i → ⊥
@@ -27,7 +28,7 @@ module _ (p : Problem) (long : length p.prices ≡ 128) where
   lengths : Lengths p.dimension (prices_in p) (start_in p) p.dimension
   lengths = (length-take-le p.dimension p.prices (omega (arith, p.small)), (unpacked_point p.dimension p.start).0, refl)
 
-  planned : (r : Result (List ℕ) Refusal) → Passes (making_checks p.dimension p.reach (rows_in p)) → PlanOf 76 p.dimension p.reach 1 (Member p) (start_in p) (prices_in p) r → Solves p r
+  planned : (r : Result (List ℕ) Refusal) → Passes (making_checks p.dimension p.reach (listed_rows p)) → PlanOf 76 p.dimension p.reach 1 (Member p) (start_in p) (prices_in p) r → Solves p r
   planned (Ok u) made h = (made, (h.0.1.1, h.1))
   planned (Err e) made h =
       let n = p.dimension in
@@ -37,7 +38,7 @@ module _ (p : Problem) (long : length p.prices ≡ 128) where
       inr (made, past (ask_at Mark (Marks x) (BadMark x)) (start_checks p) e (unpacked_point n p.start).1 (λ i a b. no_bad x i a b) r)
 
   -- the set was made of rows that are those of the problem, and asked with its start and prices
-  pub solves : (n R : ℕ) (rows given : List (List ℕ)) (s : List ℕ) (ps : List ℤ) (r : Result (List ℕ) Refusal) → n ≡ p.dimension → R ≡ p.reach → rows ≡ given → given ≡ rows_in p →
+  pub solves : (n R : ℕ) (rows given : List (List ℕ)) (s : List ℕ) (ps : List ℤ) (r : Result (List ℕ) Refusal) → n ≡ p.dimension → R ≡ p.reach → rows ≡ given → given ≡ listed_rows p →
       s ≡ start_in p → ps ≡ prices_in p → Passes (making_checks p.dimension p.reach given) → PlanOf 76 n R 1 (ListedIn n rows) s ps r → Solves p r
   solves n R rows given s ps r en eR er eg es ep m h =
       let a = subst (λ (k : ℕ). PlanOf 76 k R 1 (ListedIn k rows) s ps r) en h in
@@ -81,17 +82,17 @@ module _ (cs : List Said) (b : Begins cs) where
   near r (inr (before, after, c, e, q, n, v)) = let k = (b before after c e).1.1.1.0 q in omega arith
 
 -- so the set of a described problem can be made
-made_from : (p : Problem) (cs : List Said) → Begins cs → Means cs p → Passes (making_checks p.dimension p.reach (rows_in p))
+made_from : (p : Problem) (cs : List Said) → Begins cs → Means cs p → Passes (making_checks p.dimension p.reach (listed_rows p))
 made_from p cs b m =
     let C : ℕ → List (List ℕ) → Type 0 = λ n rows. ClearRows n rows in
     let c = clear_rows_from cs b [] cs refl in
-    let few = length-take p.count p.rows in (
+    let few = length-take p.rows.count p.rows.slots in (
       p.small,
       (
-        omega (arith, p.few),
+        omega (arith, p.rows.few),
         (
           near cs b p.reach m.reach,
-          (subst (λ (n : ℕ). C n (rows_in p)) (sym m.dimension) (subst (λ (r : List (List ℕ)). C (dimension_of cs) r) (sym m.listed) c), tt),
+          (subst (λ (n : ℕ). C n (listed_rows p)) (sym m.dimension) (subst (λ (r : List (List ℕ)). C (dimension_of cs) r) (sym m.listed) c), tt),
         ),
       ),
     )
@@ -100,6 +101,11 @@ pub solved : (s : List ℕ) (p : Problem) (r : Result (List ℕ) Refusal) → De
 solved s p (Ok u) d h = (p, (d, h.1))
 solved s p (Err e) d (inl h) =
     let m = made_from p d.1.0 d.1.1.2 d.1.3 in
-    absurd (not_both (making_checks p.dimension p.reach (rows_in p)) e
+    absurd (not_both (making_checks p.dimension p.reach (listed_rows p)) e
     ((λ i a b. b.1 a), ((λ i a b. b.1 a), ((λ i a b. b.1 a), ((λ i a b. b.1 (a i b.0)), tt)))) m h)
 solved s p (Err e) d (inr h) = inr (p, (d, h.1))
+
+-- and the answer is what comes of the planning, with the bytes of a refusal
+pub answered : (s : List ℕ) (r : Result (List ℕ) Refusal) (a : Answer) → Solved s r → MatchResult r (λ u. a ≡ Ok u) (λ e. a ≡ Err (refusal_bytes e)) → Answers s a
+answered s (Ok u) a h k = rw k h
+answered s (Err e) a h k = rw k (e, (refl, h))

@@ -8,18 +8,13 @@ use Rattle.rows.specs.declared.refusals.Fault.TheVariants.{Weight, NotMember}
 use Rattle.rows.specs.declared.refusals.Refusal.{Refusal}
 use Rattle.listed.specs.Lists.{ListedIn, making_checks}
 use Rattle.runs.specs.Planning.{Planned}
-use Rattle.script.specs.Scripts.{Describes, Refuses}
+use Rattle.script.specs.Scripts.{Describes, Refuses, listed_rows}
 use Rattle.script.specs.declared.problem.Problem.{Problem}
-use Rattle.planning.specs.Bytes.{refusal_bytes}
-use Rattle.planning.specs.declared.answer.Answer.{Answer}
-use Rattle.planning.specs.declared.answer.Answer.TheVariants.{Plan, Refused}
+use Rattle.planning.specs.Bytes.{Answer, refusal_bytes}
 
--- the rows that a problem lists, its members, its prices and its start
-abbrev pub rows_in : Problem → List (List ℕ)
-rows_in p = take p.count p.rows
-
+-- the members of the set that a problem lists, its prices and its start
 abbrev pub Member : Problem → List ℕ → Type 0
-Member p x = ListedIn p.dimension (rows_in p) x
+Member p x = ListedIn p.dimension (listed_rows p) x
 
 abbrev pub prices_in : Problem → List ℤ
 prices_in p = take p.dimension p.prices
@@ -37,10 +32,10 @@ Plans p u = Passes (start_checks p) × Planned 76 p.dimension 1 (Member p) (pric
 
 -- planning any problem, one that no script describes too: its set is made first
 abbrev pub Solves : Problem → Result (List ℕ) Refusal → Type 0
-Solves p (Ok u) = Passes (making_checks p.dimension p.reach (rows_in p)) × Plans p u
+Solves p (Ok u) = Passes (making_checks p.dimension p.reach (listed_rows p)) × Plans p u
 Solves p (Err e) =
-    RefusedBy (making_checks p.dimension p.reach (rows_in p)) e
-    ⊎ (Passes (making_checks p.dimension p.reach (rows_in p)) × RefusedBy (start_checks p) e)
+    RefusedBy (making_checks p.dimension p.reach (listed_rows p)) e
+    ⊎ (Passes (making_checks p.dimension p.reach (listed_rows p)) × RefusedBy (start_checks p) e)
 
 -- planning what a script describes
 abbrev pub Solved : List ℕ → Result (List ℕ) Refusal → Type 0
@@ -49,5 +44,5 @@ Solved s (Err e) = Refuses s e ⊎ ((p : Problem) × (Describes s p × RefusedBy
 
 -- the answer to a script
 abbrev pub Answers : List ℕ → Answer → Type 0
-Answers s (Plan u) = Solved s (Ok u)
-Answers s (Refused u) = (e : Refusal) × ((u ≡ refusal_bytes e) × Solved s (Err e))
+Answers s (Ok u) = Solved s (Ok u)
+Answers s (Err u) = (e : Refusal) × ((u ≡ refusal_bytes e) × Solved s (Err e))

@@ -1,5 +1,4 @@
-ghost use Rattle.std.specs.Prelude.{◌≡◌, ℕ, [], ◌∷◌};
-ghost use Rattle.rows.specs.Refusals.{number as numbered};
+ghost use Rattle.std.specs.Prelude.{◌≡◌};
 ghost use Rattle.script.specs.Scripts.{Settled};
 ghost use Rattle.planning.specs.Bytes.{refusal_bytes};
 ghost use Rattle.planning.specs.Answers.{Answers, Solves, Solved};
@@ -20,31 +19,24 @@ const JOB: u32 = 1;
 pub fn refusal_bytes(refusal: Refusal) -> [u8; 6]
     ensures { result ≡ refusal_bytes refusal }
 {
-    let place = (refusal.place as u64).to_be_bytes();
-    let operand = [
-        refusal.fault.number(),
-        place[4],
-        place[5],
-        place[6],
-        place[7],
-    ];
+    // the low bytes by a pattern, as `as u32` would ask that the place fits
+    let [_, _, _, _, a, b, c, d] = (refusal.place as u64).to_be_bytes();
+    let operand = [u8::from(refusal.fault), a, b, c, d];
     let mut bytes = [0; 6];
-    match Command::Refused(&operand).write(&mut bytes) {
-        Ok(_) => bytes,
-        Err(_) => unreachable(),
-    }
+    Command::Refused(&operand).write(&mut bytes).unwrap();
+    bytes
 }
 
 /// Plans a problem: the set is made, and then job 1 over it.
 pub fn solve(problem: &Problem) -> Result<[u8; 46], Refusal>
     ensures { Solves problem.now result }
 {
-    let n = problem.dimension as usize;
-    let listed = Listed::new(n, problem.reach, &problem.rows[0..problem.count])?;
+    let n = usize::from(problem.dimension);
+    let listed = Listed::new(n, problem.reach, problem.rows.as_slice())?;
     let mut start = [0; 128];
-    let start = &mut start[0..n];
+    let start = &mut start[..n];
     unpack(&problem.start, start);
-    plan(listed, JOB, start, &problem.prices[0..n])
+    plan(listed, JOB, start, &problem.prices[..n])
 }
 
 /// The plan of what a script describes, or the first refusal.
@@ -61,8 +53,5 @@ pub fn answer(script: &[u8]) -> Answer
     ensures gives { Answers script.now result }
     ensures settled { Settled script.now }
 {
-    match plan_script(script) {
-        Ok(plan) => Answer::Plan(plan),
-        Err(refusal) => Answer::Refused(refusal_bytes(refusal)),
-    }
+    plan_script(script).map_err(refusal_bytes)
 }

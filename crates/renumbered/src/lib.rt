@@ -31,24 +31,14 @@ fn is_new(numbers: &[u8], i: usize, n: usize) -> bool
     requires { i < length numbers.now }
     ensures { Decides result (NewEntry n numbers.now i) }
 {
-    for j in 0..i {
-        if numbers[j] == numbers[i] {
-            return false;
-        }
-    }
-    usize::from(numbers[i]) < n
+    !numbers[..i].contains(&numbers[i]) && usize::from(numbers[i]) < n
 }
 
 /// The index of the first entry that is not below `n` or equals an earlier one, if there is one.
 fn bad_entry(numbers: &[u8], n: usize) -> Option<usize>
     ensures { MatchOption result (AllNew n numbers.now) (λ i. BadEntry n numbers.now i) }
 {
-    for i in 0..numbers.len() {
-        if !is_new(numbers, i, n) {
-            return Some(i);
-        }
-    }
-    None
+    (0..numbers.len()).find(|i| !is_new(numbers, *i, n))
 }
 
 /// The checks of a making, in their order.
@@ -94,8 +84,9 @@ fn moved<T: Copy>(numbers: &[u8], from: &[T], to: &mut [T])
     requires source { length from.now ≡ length to.old }
     ensures { Moves numbers.now from.now to.new }
 {
-    for i in 0..numbers.len() {
-        to[usize::from(numbers[i])] = from[i];
+    // an index for the row that is read: zipped it is no plainer, since what the loop keeps is said by index
+    for (i, number) in numbers.iter().enumerate() {
+        to[usize::from(*number)] = from[i];
     }
 }
 
@@ -105,8 +96,9 @@ fn moved_back<T: Copy>(numbers: &[u8], from: &[T], to: &mut [T])
     requires source { length from.now ≡ length to.old }
     ensures { Moves numbers.now to.new from.now }
 {
-    for i in 0..numbers.len() {
-        to[i] = from[usize::from(numbers[i])];
+    // an index for the rows that are read: of an `iter_mut` that is zipped nothing is known after the loop
+    for (i, entry) in to.iter_mut().enumerate() {
+        *entry = from[usize::from(numbers[i])];
     }
 }
 
@@ -117,7 +109,7 @@ fn moved_belongs<A: Augmenter>(below: &A, numbers: &[u8], row: &[u8]) -> bool
     ensures { Decides result (MemberAbove (A.dim below.now) (A.Member below.now) numbers.now row.now) }
 {
     let mut scratch = [0u8; LARGEST_DIMENSION];
-    let marks = &mut scratch[0..row.len()];
+    let marks = &mut scratch[..row.len()];
     moved(numbers, row, marks);
     below.belongs(marks)
 }
@@ -160,9 +152,9 @@ fn put<A: Augmenter>(
     let mut price_row = [0i64; LARGEST_DIMENSION];
     let mut mark_row = [0u8; LARGEST_DIMENSION];
     let mut found_row = [0u8; LARGEST_DIMENSION];
-    let costs = &mut price_row[0..prices.len()];
-    let marks = &mut mark_row[0..point.len()];
-    let found = &mut found_row[0..out.len()];
+    let costs = &mut price_row[..prices.len()];
+    let marks = &mut mark_row[..point.len()];
+    let found = &mut found_row[..out.len()];
     move_question(numbers, prices, point, costs, marks);
     match below.better(costs, marks, found) {
         Ok(answer) => {
@@ -191,6 +183,7 @@ impl<A: Augmenter> Augmenter for Renumbered<A> {
 
     ghost member_is_point = { Prim.search rules };
 
+    // As the set below, like the next two: a default body in the trait could not be proved, where constants are opaque.
     fn letter() -> u8 {
         A::letter()
     }
@@ -207,7 +200,7 @@ impl<A: Augmenter> Augmenter for Renumbered<A> {
         if !self.fits() || row.len() != self.below.dimension() {
             return false;
         }
-        moved_belongs(&self.below, &self.numbers[0..self.count], row)
+        moved_belongs(&self.below, &self.numbers[..self.count], row)
     }
 
     fn better(&self, prices: &[i64], point: &[u8], out: &mut [u8]) -> Result<Answer, Refusal> {
@@ -216,12 +209,6 @@ impl<A: Augmenter> Augmenter for Renumbered<A> {
         if !self.fits() {
             return Err(Fault::NotMember.at(0));
         }
-        put(
-            &self.below,
-            &self.numbers[0..self.count],
-            prices,
-            point,
-            out,
-        )
+        put(&self.below, &self.numbers[..self.count], prices, point, out)
     }
 }

@@ -1,12 +1,11 @@
 -- Packing and unpacking are inverse: the bits of a packed row are its marks, and bytes with equal bits are equal.
-use Rattle.std.proofs.Common.{◌≡◌, ℕ, zero, suc, ◌+◌, ◌-◌, ◌*◌, ◌/◌, ◌%◌, ◌^◌, ◌<◌, ◌≤◌, List, [], ◌∷◌, length, get_or, take, drop, set, sym, refl, ap, ◌∙◌, subst, ⊎_elim, pow-suc, div-one, arith, pow_mono, shr-shr}
+use Rattle.std.proofs.Common.{◌≡◌, ℕ, zero, suc, Option, None, Some, MatchOption, ◌+◌, ◌-◌, ◌*◌, ◌/◌, ◌%◌, ◌^◌, ◌<◌, ◌≤◌, List, [], ◌∷◌, length, get_or, take, drop, sym, refl, ap, ◌∙◌, subst, ⊎_elim, pow-suc, div-one, arith, pow_mono, shr-shr}
 use native.Mathlib.Nat.{zero-div}
 use Rattle.std.proofs.lemmas.Bool.{cases_lt}
-use Rattle.std.proofs.lemmas.List.{get_or_past, get_or-take, get_or-drop, drop_all, length-take, length-drop}
-use Rattle.std.proofs.lemmas.List.Edits.{fill_by_more}
+use Rattle.std.proofs.lemmas.List.{get_or_past, get_or-take, get_or-drop, length-take, length-drop}
 use Rattle.std.proofs.lemmas.List.FromFn.{get_or-map-range_with_len, fill_by_all, length-map-range_with_len}
 use Rattle.rows.specs.Points.{Point}
-use Rattle.rows.specs.Packed.{bit_at, unpacked, digit, value, byte_of, packed, ClearFrom}
+use Rattle.rows.specs.Packed.{bit_at, unpacked, digit, value, byte_of, packed, ClearFrom, StrayBit}
 
 -- what stands beyond the bytes
 none_of : (j : ℕ) → 0 / 2 ^ j % 2 ≡ 0
@@ -17,13 +16,6 @@ bit_past bs i h = ap (λ (z : ℕ). z / 2 ^ (i % 8) % 2) (get_or_past bs (i / 8)
 
 pub bit_small : (bs : List ℕ) (i : ℕ) → bit_at bs i ≤ 1
 bit_small bs i = omega arith
-
--- a loop that writes f k at each place k: one place more
-pub filled_more : (f : ℕ → ℕ) (xs : List ℕ) (i v : ℕ) → i < length xs → v ≡ f i →
-    ((k : ℕ) → k < i → get_or xs k 0 ≡ f k) → (k : ℕ) → k < i + 1 → get_or (set xs i v) k 0 ≡ f k
-filled_more f xs i v h e g k l =
-    let P : ℕ → Type 0 = λ y. get_or (set xs i y) k 0 ≡ f k in
-    subst P (sym e) (fill_by_more f xs i 0 h g k l)
 
 -- a number by its digits
 pub digit_small : (x : ℕ) → digit x ≤ 1
@@ -83,9 +75,6 @@ byte_small xs b = value_below (take 8 (drop (8 * b) xs)) 8 (simp length-take (om
 -- a loop that sums up a byte from its highest digit down: what the digits from j on come to
 abbrev pub from_digit : List ℕ → ℕ → ℕ → ℕ
 from_digit xs b j = value (drop j (take 8 (drop (8 * b) xs)))
-
-pub from_none : (xs : List ℕ) (b : ℕ) → from_digit xs b 8 ≡ 0
-from_none xs b = ap value (drop_all 8 (take 8 (drop (8 * b) xs)) (simp length-take (omega arith)))
 
 pub from_small : (xs : List ℕ) (b j : ℕ) → 0 < j → from_digit xs b j < 2 ^ 7
 from_small xs b j h = value_below (drop j (take 8 (drop (8 * b) xs))) 7 (simp (length-drop, length-take) (omega arith))
@@ -152,3 +141,10 @@ packed_unpacked n bs l f c =
         let q : (8 * b + j) / 8 ≡ b = omega arith in
         let r : (8 * b + j) % 8 ≡ j = omega arith in
         ap (λ (z : ℕ). get_or bs z 0 / 2 ^ ((8 * b + j) % 8) % 2) q ∙ ap (λ (z : ℕ). get_or bs b 0 / 2 ^ z % 2) r
+
+-- a search of the coordinates from n to 128 for a set bit
+pub first_stray : (n : ℕ) (bs : List ℕ) (r : Option ℕ) → length bs ≡ 16 →
+    MatchOption r ((k : ℕ) → n ≤ k → k < 128 → bit_at bs k ≡ 0) (λ i. (n ≤ i) × (i < 128) × (bit_at bs i ≡ 1) × ((k : ℕ) → n ≤ k → k < i → bit_at bs k ≡ 0)) →
+    MatchOption r (ClearFrom n bs) (λ i. StrayBit n bs i)
+first_stray n bs None l h = λ i g. ⊎_elim (λ (s : i < 128). h i g s) (λ (s : 128 ≤ i). bit_past bs i (omega arith)) (cases_lt i 128)
+first_stray n bs (Some i) l h = (h.0, h.2, h.3)

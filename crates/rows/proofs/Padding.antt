@@ -1,21 +1,8 @@
 -- Rows kept at the start of an array.
-use Rattle.std.proofs.Common.{◌≡◌, ℕ, ◌+◌, ◌-◌, ◌<◌, ◌≤◌, min, List, [], ◌∷◌, ◌++◌, length, get_or, take, drop, set, replicate, sym, refl, ap, ◌∙◌, subst, ap₂, ⊎_elim, arith}
+use Rattle.std.proofs.Common.{◌≡◌, ℕ, ◌+◌, ◌-◌, ◌<◌, ◌≤◌, min, List, ◌++◌, length, take, drop, replicate, sym, refl, ap, ◌∙◌, subst, ap₂, ⊎_elim, arith}
 use lib.Seq.{take-append-add}
 use Rattle.std.proofs.lemmas.Bool.{cases_lt}
-use Rattle.std.proofs.lemmas.List.{take_more, take_at, take-take, take_all, take-append-le, take-replicate, drop_more, drop_all, drop-replicate, set-append_right, length-take-le, length-replicate, append-nil, append_assoc}
-
--- a loop that copies xs over the start of ys: one entry more
-pub over_more : {X : Type 0} (xs ys : List X) (x : X) (i : ℕ) → i < length xs → i < length ys → x ≡ get_or xs i x →
-    set (take i xs ++ drop i ys) i x ≡ take (i + 1) xs ++ drop (i + 1) ys
-over_more {X} xs ys x i h k e =
-    let z : i - i ≡ 0 = omega arith in
-    let a = set-append_right (take i xs) (drop i ys) i i x (length-take-le i xs (omega arith)) (omega arith) in
-    let S : List X → ℕ → Type 0 = λ l j. set (take i xs ++ drop i ys) i x ≡ take i xs ++ set l j x in
-    let b = subst (λ (j : ℕ). S (get_or ys i x ∷ drop (i + 1) ys) j) z (subst (λ (l : List X). S l (i - i)) (drop_more ys i x k) a) in
-    let t = take_more xs i x h in
-    let g : take (i + 1) xs ++ drop (i + 1) ys ≡ take i xs ++ (x ∷ drop (i + 1) ys) =
-    ap (λ (l : List X). l ++ drop (i + 1) ys) (t ∙ ap (λ (y : X). take i xs ++ y ∷ []) (sym e)) ∙ append_assoc (take i xs) (x ∷ []) (drop (i + 1) ys) in
-    b ∙ sym g
+use Rattle.std.proofs.lemmas.List.{take_at, take-take, take_all, take-append-le, take-replicate, drop_all, drop-replicate, length-replicate, append-nil}
 
 -- all entries
 padded_short : {X : Type 0} (N : ℕ) (xs : List X) (f : X) → length xs ≤ N →

@@ -1,10 +1,8 @@
 -- The laws of planes: how prices, remainders and ones at one plane come from those at the plane above.
-use Rattle.std.proofs.Common.{◌≡◌, ℕ, zero, suc, ◌+◌, ◌-◌, ◌*◌, ◌/◌, ◌%◌, ◌^◌, ◌<◌, ◌≤◌, min, max, List, [], ◌∷◌, length, get_or, drop, ℤ, pos, negsuc, ◌+ℤ◌, neg_ℤ, nat_abs, ◌≤ℤ◌, fold, sym, refl, ap, ◌∙◌, subst, ap₂, ⊎_elim, mod-lt, mod-eq_of_lt, mul_assoc, mul_comm, add-mul, add_comm, pow-suc, lt_of_not-le, zero-mul, div-one, add-one, arith, pow_pos, pow_mono, shr-shr}
+use Rattle.std.proofs.Common.{◌≡◌, ℕ, zero, suc, ◌+◌, ◌-◌, ◌*◌, ◌/◌, ◌%◌, ◌^◌, ◌<◌, ◌≤◌, max, List, [], ◌∷◌, length, ℤ, pos, negsuc, ◌+ℤ◌, neg_ℤ, nat_abs, ◌≤ℤ◌, fold, sym, refl, ap, ◌∙◌, subst, ap₂, ⊎_elim, ◌⊎◌, mod-lt, mod-eq_of_lt, mul_assoc, mul_comm, add-mul, add_comm, pow-suc, lt_of_not-le, zero-mul, div-one, add-one, arith, pow_pos, pow_mono, shr-shr}
 use native.Mathlib.Nat.{div-eq_of_lt, mod-one}
 use lib.Pow.{split, shr_le, mod-pow-add}
 use lib.Count.{ones as one_bits, ones_in, ones_cat, ones-le, count_leading_zeros, leading_length}
-use Rattle.std.proofs.lemmas.Bool.{cases_lt}
-use Rattle.std.proofs.lemmas.List.{drop_more, drop_all}
 use Rattle.std.proofs.lemmas.Int.{ints}
 use Rattle.std.proofs.lemmas.List.Sums.{sum_by-cons}
 use Rattle.rows.specs.Planes.{PlaneLaws}
@@ -215,23 +213,10 @@ pub remainder_past : (n k : ℕ) → n < 2 ^ 64 → 64 ≤ k → n % 2 ^ k ≡ n
 remainder_past n k h g = mod-eq_of_lt (let z = pow_mono g in omega arith)
 
 -- one more coordinate of a price
-pub price_drop_more : (ps : List ℤ) (xs : List ℕ) (i : ℕ) → i < length ps → i < length xs →
-    price (drop i ps) (drop i xs) ≡ pays (get_or ps i (pos 0)) (get_or xs i 0) +ℤ price (drop (i + 1) ps) (drop (i + 1) xs)
-price_drop_more ps xs i h k = rw (drop_more ps i (pos 0) h, drop_more xs i 0 k)
-
-pub price_drop_all : (ps : List ℤ) (xs : List ℕ) (i : ℕ) → i ≡ min (length ps) (length xs) → price (drop i ps) (drop i xs) ≡ pos 0
-price_drop_all ps xs i e =
-    ⊎_elim
-    (λ (h : length ps < length xs). let q : length ps ≤ i = omega arith in rw (drop_all i ps q))
-    (λ (h : length xs ≤ length ps). let q : length xs ≤ i = omega arith in rw (drop_all i xs q) (no_marks (drop i ps)))
-    (cases_lt (length ps) (length xs))
-  where
-    no_marks : (ps : List ℤ) → price ps [] ≡ pos 0
-    no_marks [] = refl
-    no_marks (p ∷ ps) = refl
-
-pub remainder_le : (n k : ℕ) → n % 2 ^ k ≤ n
-remainder_le n k = let s = split n k in omega arith
+pub price_ends : (ps : List ℤ) (xs : List ℕ) → (length ps ≡ 0) ⊎ (length xs ≡ 0) → price ps xs ≡ pos 0
+price_ends [] xs h = refl
+price_ends (p ∷ ps) [] h = refl
+price_ends (p ∷ ps) (x ∷ xs) h = ⊎_elim (λ e. absurd (omega arith)) (λ e. absurd (omega arith)) h
 
 pub plane_laws : (k : ℕ) (ps : List ℤ) → PlaneLaws k ps
 plane_laws k ps = record {

@@ -1,5 +1,8 @@
-ghost use Rattle.std.specs.Prelude.{◌≡◌, ◌*◌, pos};
-ghost use Rattle.rows.specs.Classes.{class_of, days as kept_days};
+ghost use Rattle.std.specs.Prelude.{◌≡◌, ◌*◌, pos, Some};
+ghost use Rattle.rows.specs.Classes.{Classified, days as kept_days, name};
+
+use crate::refusals::Fault;
+use std::fmt;
 
 /// What a line or store keeps, and so for how many days.
 #[derive(Clone, Copy, PartialEq, Eq, Debug)]
@@ -10,19 +13,23 @@ pub enum Class {
     Heartbeats,
 }
 
-impl Class {
-    /// The class of a letter, if there is one.
-    pub fn of_letter(letter: char) -> Option<Class>
-        ensures { result ≡ class_of letter }
-    {
+/// The class of a letter; any other letter is an unknown class.
+impl TryFrom<char> for Class {
+    type Error = Fault;
+
+    ghost try_from_gives = { Classified };
+
+    fn try_from(letter: char) -> Result<Self, Fault> {
         match letter {
-            'd' => Some(Class::DoorEvents),
-            'k' => Some(Class::KeypadErrors),
-            'h' => Some(Class::Heartbeats),
-            _ => None,
+            'd' => Ok(Class::DoorEvents),
+            'k' => Ok(Class::KeypadErrors),
+            'h' => Ok(Class::Heartbeats),
+            _ => Err(Fault::UnknownClass),
         }
     }
+}
 
+impl Class {
     /// The days for which a unit is kept.
     pub fn days(self) -> u32
         ensures { result ≡ kept_days self }
@@ -39,5 +46,17 @@ impl Class {
         ensures { result ≡ pos (units * kept_days self) }
     {
         i64::from(units) * i64::from(self.days())
+    }
+}
+
+impl fmt::Display for Class {
+    ghost output = { λ c. Some (name c) };
+
+    fn fmt<W: fmt::Write>(&self, f: &mut fmt::Formatter<W>) -> fmt::Result {
+        f.write_str(match self {
+            Class::DoorEvents => "door events",
+            Class::KeypadErrors => "keypad errors",
+            Class::Heartbeats => "heartbeats",
+        })
     }
 }

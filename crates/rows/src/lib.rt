@@ -3,6 +3,7 @@
 
 pub mod classes;
 pub mod packed;
+pub mod packed_rows;
 pub mod points;
 pub mod prices;
 pub mod refusals;

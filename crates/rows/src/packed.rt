@@ -9,10 +9,9 @@ pub type Packed = [u8; 16];
 fn bit_at(bytes: &Packed, i: usize) -> u8
     ensures { result ≡ bit_at bytes.now i }
 {
-    if i / 8 < 16 {
-        (bytes[i / 8] >> (i % 8)) % 2
-    } else {
-        0
+    match bytes.get(i / 8) {
+        Some(byte) => (byte >> (i % 8)) % 2,
+        None => 0,
     }
 }
 
@@ -20,14 +19,14 @@ fn bit_at(bytes: &Packed, i: usize) -> u8
 fn digit(mark: u8) -> u8
     ensures { result ≡ digit mark }
 {
-    if mark == 0 { 0 } else { 1 }
+    u8::from(mark != 0)
 }
 
 /// The mark of a coordinate, 0 beyond the row's end.
 fn mark_at(row: &[u8], i: usize) -> u8
     ensures { result ≡ slice_index row.now i }
 {
-    if i < row.len() { row[i] } else { 0 }
+    row.get(i).copied().unwrap_or(0)
 }
 
 /// One byte of a packed point: eight coordinates, the lowest bit first.
@@ -35,6 +34,7 @@ fn byte_of(row: &[u8], byte: usize) -> u8
     requires { byte < 16 }
     ensures { result ≡ byte_of row.now byte }
 {
+    // by the places of bits, since beyond the row's end the marks are 0
     let mut sum = 0u8;
     for j in (0..8).rev() {
         sum = 2 * sum + digit(mark_at(row, 8 * byte + j));
@@ -48,8 +48,8 @@ pub fn pack(row: &[u8]) -> Packed
     ensures inverse { (n : ℕ) → n ≤ 128 → Point n row.now → unpacked n result ≡ row.now }
 {
     let mut bytes = [0u8; 16];
-    for b in 0..16 {
-        bytes[b] = byte_of(row, b);
+    for (b, byte) in bytes.iter_mut().enumerate() {
+        *byte = byte_of(row, b);
     }
     bytes
 }
@@ -59,8 +59,8 @@ pub fn unpack(bytes: &Packed, row: &mut [u8])
     ensures is { row.new ≡ unpacked (length row.old) bytes.now }
     ensures inverse { ClearFrom (length row.old) bytes.now → packed row.new ≡ bytes.now }
 {
-    for i in 0..row.len() {
-        row[i] = bit_at(bytes, i);
+    for (i, mark) in row.iter_mut().enumerate() {
+        *mark = bit_at(bytes, i);
     }
 }
 
@@ -68,10 +68,5 @@ pub fn unpack(bytes: &Packed, row: &mut [u8])
 pub fn stray_bit(bytes: &Packed, n: usize) -> Option<usize>
     ensures { MatchOption result (ClearFrom n bytes.now) (λ i. StrayBit n bytes.now i) }
 {
-    for i in n..128 {
-        if bit_at(bytes, i) == 1 {
-            return Some(i);
-        }
-    }
-    None
+    (n..128).find(|i| bit_at(bytes, *i) == 1)
 }

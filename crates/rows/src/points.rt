@@ -1,5 +1,5 @@
 ghost use Rattle.std.specs.Prelude.{◌≡◌, ℕ, ◌<◌, ◌≤◌, ◌++◌, length, take, replicate, MatchOption};
-ghost use Rattle.rows.specs.Points.{Marks, BadMark};
+ghost use Rattle.rows.specs.Points.{UpTo, FirstAbove, Marks, BadMark};
 
 /// The largest dimension.
 pub const LARGEST_DIMENSION: usize = 128;
@@ -7,16 +7,18 @@ pub const LARGEST_DIMENSION: usize = 128;
 /// A row of at most the largest dimension, at the start of an array of that length.
 pub type Padded<T> = [T; LARGEST_DIMENSION];
 
-/// The index of the first byte above 1, if there is one.
+/// The index of the first byte above `most`, if there is one.
+pub fn first_above(row: &[u8], most: u8) -> Option<usize>
+    ensures { MatchOption result (UpTo most row.now) (λ i. FirstAbove most row.now i) }
+{
+    row.iter().position(|b| *b > most)
+}
+
+/// The index of the first byte that is no mark, as it is above 1, if there is one.
 pub fn bad_mark(row: &[u8]) -> Option<usize>
     ensures { MatchOption result (Marks row.now) (λ i. BadMark row.now i) }
 {
-    for (i, b) in row.iter().enumerate() {
-        if *b > 1 {
-            return Some(i);
-        }
-    }
-    None
+    first_above(row, 1)
 }
 
 /// A row at the start of an array, followed by `fill`; entries that the array has no place for are left out.
@@ -24,8 +26,7 @@ pub fn padded<T: Copy, const N: usize>(row: &[T], fill: T) -> [T; N]
     ensures { result ≡ take N (row.now ++ replicate N fill) }
 {
     let mut r = [fill; N];
-    for i in 0..row.len().min(N) {
-        r[i] = row[i];
-    }
+    let n = row.len().min(N);
+    r[..n].copy_from_slice(&row[..n]);
     r
 }

@@ -8,22 +8,23 @@ use crate::points::Padded;
 pub fn weight(prices: &[i64]) -> u128
     ensures { result ≡ weight prices.now }
 {
-    let mut sum: u128 = 0;
-    for p in prices {
-        sum += u128::from(p.unsigned_abs());
-    }
-    sum
+    prices.iter().map(|p| u128::from(p.unsigned_abs())).sum()
 }
 
 /// The ones of a price row: the one bits of its magnitudes.
 pub fn ones(prices: &[i64]) -> u128
     ensures { result ≡ ones prices.now }
 {
-    let mut count: u128 = 0;
-    for p in prices {
-        count += u128::from(p.unsigned_abs().count_ones());
-    }
-    count
+    let ones_of = |p: &i64| u128::from(p.unsigned_abs().count_ones());
+    prices.iter().map(ones_of).sum()
+}
+
+/// The largest magnitude, 0 for an empty row.
+fn largest_magnitude(prices: &[i64]) -> u64
+    ensures { result ≡ largest prices.now }
+{
+    let larger = |most: u64, p: &i64| most.max(p.unsigned_abs());
+    prices.iter().fold(0, larger)
 }
 
 /// The planes of a price row: the binary digits of its largest magnitude, none for a row of zeros.
@@ -32,11 +33,7 @@ pub fn planes(prices: &[i64]) -> u32
     ensures digits { Digits (largest prices.now) result }
     ensures few { weight prices.now < 2 ^ 40 → result ≤ 40 }
 {
-    let mut most: u64 = 0;
-    for p in prices {
-        most = most.max(p.unsigned_abs());
-    }
-    64 - most.leading_zeros()
+    64 - largest_magnitude(prices).leading_zeros()
 }
 
 /// A magnitude without its digits below a plane.
@@ -75,9 +72,9 @@ pub fn row_at_plane(prices: &Padded<i64>, plane: u32) -> Padded<i64>
     ensures is { result ≡ row_at plane prices.now }
     ensures laws { PlaneLaws plane prices.now }
 {
-    let mut row = [0i64; 128];
-    for i in 0..128 {
-        row[i] = price_at_plane(prices[i], plane);
+    let mut row = *prices;
+    for p in &mut row {
+        *p = price_at_plane(*p, plane);
     }
     row
 }
@@ -86,11 +83,8 @@ pub fn row_at_plane(prices: &Padded<i64>, plane: u32) -> Padded<i64>
 pub fn remainders(prices: &[i64], plane: u32) -> u128
     ensures { result ≡ remainders plane prices.now }
 {
-    let mut rest: u128 = 0;
-    for p in prices {
-        rest += u128::from(remainder(p.unsigned_abs(), plane));
-    }
-    rest
+    let rest_of = |p: &i64| u128::from(remainder(p.unsigned_abs(), plane));
+    prices.iter().map(rest_of).sum()
 }
 
 /// The ones below a plane: the one bits of the magnitudes' remainders by 2^plane.
@@ -118,8 +112,8 @@ pub fn price(prices: &[i64], point: &[u8]) -> i128
     ensures { result ≡ price prices.now point.now }
 {
     let mut sum: i128 = 0;
-    for i in 0..prices.len().min(point.len()) {
-        sum += pay(prices[i], point[i]);
+    for (p, mark) in prices.iter().zip(point) {
+        sum += pay(*p, *mark);
     }
     sum
 }

@@ -15,7 +15,7 @@ use Rattle.job.specs.declared.parts.Ticketing.TheVariants.{Unissued, Out, Writte
 use Rattle.job.specs.declared.tries.Call.{Call}
 use Rattle.job.specs.declared.tries.Call.TheVariants.{Begin, Advance, Reprice, Issue, Write, Withdraw}
 use Rattle.job.specs.declared.tries.Outcome.{Outcome}
-use Rattle.job.specs.declared.tries.Outcome.TheVariants.{Accepted, Advanced as SteppedOn, Issued as Given, Written, Withdrawn, Refused}
+use Rattle.job.specs.declared.tries.Outcome.TheVariants.{Accepted, Advanced as SteppedOn, Issued as Given, Written, Withdrawn}
 use Rattle.job.specs.Views.{View, IsOpen, opened, accepted, ticketed}
 use Rattle.job.specs.Calls.{Began, AdvancedFrom, Repriced}
 use Rattle.job.specs.Soundness.{Standing, Sound}
@@ -46,7 +46,7 @@ tally h = record {
 }
 
 -- one turn more
-abbrev pub turned : Tally → Call → Outcome → Tally
+abbrev pub turned : Tally → Call → Result Outcome Refusal → Tally
 turned t c o = record {
   gains = t.gains + if_advanced 1 0 0 o;
   ends = t.ends + if_advanced 0 1 0 o;
@@ -61,7 +61,7 @@ same_tally : (a a' b b' c c' d d' e e' : ℕ) (r r' : List ℤ) (f f' : ℕ) →
     ◌≡◌ {A = Tally} (record { gains = a; ends = b; all_ones = c; rows = d; since = e; row = r; writes = f }) (record { gains = a'; ends = b'; all_ones = c'; rows = d'; since = e'; row = r'; writes = f' })
 same_tally a a' b b' c c' d d' e e' r r' f f' ea eb ec ed ee er ef = cc
 
-pub tally_push : (h : List Turn) (c : Call) (o : Outcome) → tally (h ++ ((c, o) ∷ [])) ≡ turned (tally h) c o
+pub tally_push : (h : List Turn) (c : Call) (o : Result Outcome Refusal) → tally (h ++ ((c, o) ∷ [])) ≡ turned (tally h) c o
 tally_push h c o =
     same_tally _ _ _ _ _ _ _ _ _ _ _ _ _ _
     (sum_by_push (λ (t : Turn). if_advanced 1 0 0 t.1) h (c, o))
@@ -94,13 +94,13 @@ gains_few R M ps x t (Open k j) st p = let e = ones_below_suc k ps in omega arit
 gains_few R M ps x t Finished st p = p.0
 
 -- a turn that accepts no row, improves nothing and closes no plane
-quiet_held : (ps : List ℤ) (t : Tally) (c : Call) (o : Outcome) (s : State) → (turned t c o).gains ≡ t.gains → (turned t c o).all_ones ≡ t.all_ones →
+quiet_held : (ps : List ℤ) (t : Tally) (c : Call) (o : Result Outcome Refusal) (s : State) → (turned t c o).gains ≡ t.gains → (turned t c o).all_ones ≡ t.all_ones →
     (turned t c o).rows ≡ t.rows → (turned t c o).row ≡ t.row → (IsOpen s → (turned t c o).since ≡ t.since) → Held ps t s → Held ps (turned t c o) s
 quiet_held ps t c o NotBegun eg eo er ep es p = (omega arith, omega arith)
 quiet_held ps t c o (Open k j) eg eo er ep es p = let e = es tt in (omega arith, omega arith, p.2 ∙ sym ep, omega arith)
 quiet_held ps t c o Finished eg eo er ep es p = (omega arith, p.1 ∙ sym ep, omega arith)
 
-quiet_kept : (m : ℕ) (a : View) (t : Tally) (c : Call) (o : Outcome) → (turned t c o).gains ≡ t.gains → (turned t c o).ends ≡ t.ends → (turned t c o).all_ones ≡ t.all_ones →
+quiet_kept : (m : ℕ) (a : View) (t : Tally) (c : Call) (o : Result Outcome Refusal) → (turned t c o).gains ≡ t.gains → (turned t c o).ends ≡ t.ends → (turned t c o).all_ones ≡ t.all_ones →
     (turned t c o).rows ≡ t.rows → (turned t c o).row ≡ t.row → (IsOpen a.state → (turned t c o).since ≡ t.since) → (turned t c o).writes ≡ t.writes →
     Kept m a t → Kept m a (turned t c o)
 quiet_kept m a t c o eg ee eo er ep es ew k = record {
@@ -113,16 +113,16 @@ quiet_kept m a t c o eg ee eo er ep es ew k = record {
 }
 
 -- a refusal
-refused_kept : (m : ℕ) (a : View) (t : Tally) (c : Call) (e : Refusal) → (IsOpen a.state → advance c ≡ 0) → Kept m a t → Kept m a (turned t c (Refused e))
+refused_kept : (m : ℕ) (a : View) (t : Tally) (c : Call) (e : Refusal) → (IsOpen a.state → advance c ≡ 0) → Kept m a t → Kept m a (turned t c (Err e))
 refused_kept m a t c e z k =
-    quiet_kept m a t c (Refused e) (omega arith) (omega arith) (omega arith) (omega arith) refl (λ h. let y = z h in omega arith) (omega arith) k
+    quiet_kept m a t c (Err e) (omega arith) (omega arith) (omega arith) (omega arith) refl (λ h. let y = z h in omega arith) (omega arith) k
 
 -- another state of the ticket
 ticketed_kept : (m : ℕ) (a : View) (x : Ticketing) (t : Tally) → Kept m a t → ((x ≡ PlanWritten → ⊥) → t.writes ≡ 0) → Kept m (ticketed a x) t
 ticketed_kept m a x t k f = record { number = k.number; improved = k.improved; closed = k.closed; rows = k.rows; held = k.held; wrote = f }
 
 -- a row accepted
-held_opened : (ps : List ℤ) (t : Tally) (c : Call) (k : ℕ) → planes ps ≡ k → ps ≡ row_of c → Under (2 ^ k) ps → t.gains ≤ t.all_ones → Held ps (turned t c Accepted) (opened k)
+held_opened : (ps : List ℤ) (t : Tally) (c : Call) (k : ℕ) → planes ps ≡ k → ps ≡ row_of c → Under (2 ^ k) ps → t.gains ≤ t.all_ones → Held ps (turned t c (Ok Accepted)) (opened k)
 held_opened ps t c zero e q u g = (omega arith, q, omega arith)
 held_opened ps t c (suc k) e q u g =
     let o = ones_below_all (suc k) ps u in
@@ -130,7 +130,7 @@ held_opened ps t c (suc k) e q u g =
     (omega arith, omega arith, q, omega arith)
 
 -- a plane closed
-held_closed : (ps : List ℤ) (t : Tally) (k j : ℕ) → j ≤ bits k ps → Held ps t (Open k j) → Held ps (turned t Advance (SteppedOn Closed)) (opened k)
+held_closed : (ps : List ℤ) (t : Tally) (k j : ℕ) → j ≤ bits k ps → Held ps t (Open k j) → Held ps (turned t Advance (Ok (SteppedOn Closed))) (opened k)
 held_closed ps t zero j b s = let e = ones_below_suc 0 ps in (omega arith, s.2, omega arith)
 held_closed ps t (suc k) j b s = let e = ones_below_suc (suc k) ps in (omega arith, omega arith, s.2, omega arith)
 
@@ -141,7 +141,7 @@ not_yet ps t Finished e p = let z : ◌≡◌ {A = ℕ} 0 1 = cc in omega arith
 
 module _ (letter n R m : ℕ) (M : List ℕ → Type 0) (small : n ≤ 128) (low : R < 2 ^ 40) (points : (y : List ℕ) → M y → Point n y) where
   accepted_kept : (a : View) (t : Tally) (c : Call) (x : List ℕ) (ps : List ℤ) → Sound n R M a → Kept m a t → a.totals.rows < 1000 →
-      ps ≡ row_of c → weight ps ≤ R → Kept m (accepted a x ps) (turned t c Accepted)
+      ps ≡ row_of c → weight ps ≤ R → Kept m (accepted a x ps) (turned t c (Ok Accepted))
   accepted_kept a t c x ps w k few q light =
       let top = top_light ps in
       let g = gains_few R M a.prices a.point t a.state w.stands k.held in
@@ -159,19 +159,19 @@ module _ (letter n R m : ℕ) (M : List ℕ → Type 0) (small : n ≤ 128) (low
   begin_kept a b t c s ps (Ok u) q z g w k =
       let none = not_yet a.prices t a.state g.0.0 k.held in
       let same = k.rows in
-      let P : View → Type 0 = λ v. Kept m v (turned t c Accepted) in
+      let P : View → Type 0 = λ v. Kept m v (turned t c (Ok Accepted)) in
       subst P (sym g.1) (accepted_kept a t c s ps w k (omega arith) q g.0.1.1.1.0)
   begin_kept a b t c s ps (Err e) q z g w k =
-      let P : View → Type 0 = λ v. Kept m v (turned t c (Refused e)) in
+      let P : View → Type 0 = λ v. Kept m v (turned t c (Err e)) in
       subst P (sym g.1) (refused_kept m a t c e (λ h. z) k)
 
   reprice_kept : (a b : View) (t : Tally) (c : Call) (ps : List ℤ) (r : Result (Unit {0}) Refusal) → ps ≡ row_of c → advance c ≡ 0 →
       Repriced n R a ps r b → Sound n R M a → Kept m a t → Kept m b (turned t c (row_outcome r))
   reprice_kept a b t c ps (Ok u) q z g w k =
-      let P : View → Type 0 = λ v. Kept m v (turned t c Accepted) in
+      let P : View → Type 0 = λ v. Kept m v (turned t c (Ok Accepted)) in
       subst P (sym g.1) (accepted_kept a t c a.point ps w k g.0.1.0 q g.0.1.1.1.0)
   reprice_kept a b t c ps (Err e) q z g w k =
-      let P : View → Type 0 = λ v. Kept m v (turned t c (Refused e)) in
+      let P : View → Type 0 = λ v. Kept m v (turned t c (Err e)) in
       subst P (sym g.1) (refused_kept m a t c e (λ h. z) k)
 
   not_open : (s s' : State) → s ≡ s' → (IsOpen s' → ⊥) → IsOpen s → ⊥
@@ -181,20 +181,20 @@ module _ (letter n R m : ℕ) (M : List ℕ → Type 0) (small : n ≤ 128) (low
       Standing R M a.prices a.point s → Held a.prices t s → Kept m a t → Kept m b (turned t Advance (step_outcome r))
   advance_kept_from a b t NotBegun (Ok x) es g w st p k = absurd g
   advance_kept_from a b t NotBegun (Err e) es g w st p k =
-      let P : View → Type 0 = λ v. Kept m v (turned t Advance (Refused e)) in
+      let P : View → Type 0 = λ v. Kept m v (turned t Advance (Err e)) in
       subst P (sym g.1) (refused_kept m a t Advance e (λ h. absurd (not_open a.state NotBegun es (λ z. z) h)) k)
   advance_kept_from a b t Finished (Ok Improved) es g w st p k = absurd g
   advance_kept_from a b t Finished (Ok Closed) es g w st p k = absurd g
   advance_kept_from a b t Finished (Ok Done) es g w st p k =
-      let P : View → Type 0 = λ v. Kept m v (turned t Advance (SteppedOn Done)) in
+      let P : View → Type 0 = λ v. Kept m v (turned t Advance (Ok (SteppedOn Done))) in
       subst P (sym g)
-      (quiet_kept m a t Advance (SteppedOn Done) (omega arith) (omega arith) (omega arith) (omega arith) refl (λ h. absurd (not_open a.state Finished es (λ z. z) h)) (omega arith) k)
+      (quiet_kept m a t Advance (Ok (SteppedOn Done)) (omega arith) (omega arith) (omega arith) (omega arith) refl (λ h. absurd (not_open a.state Finished es (λ z. z) h)) (omega arith) k)
   advance_kept_from a b t Finished (Err e) es g w st p k = absurd g
   advance_kept_from a b t (Open i j) (Ok Improved) es g w st p k =
       let f = stands_improved n R M a.prices a.point b.point i j small w.prices_long st g.1 in
       let few = totals_few R M a.prices a.point a.totals a.state w.stands w.spent in
       let rows = w.few_rows in
-      let P : View → Type 0 = λ v. Kept m v (turned t Advance (SteppedOn Improved)) in
+      let P : View → Type 0 = λ v. Kept m v (turned t Advance (Ok (SteppedOn Improved))) in
       subst P (sym g.2)
       (record {
         number = k.number;
@@ -207,7 +207,7 @@ module _ (letter n R m : ℕ) (M : List ℕ → Type 0) (small : n ≤ 128) (low
   advance_kept_from a b t (Open i j) (Ok Closed) es g w st p k =
       let few = totals_few R M a.prices a.point a.totals a.state w.stands w.spent in
       let rows = w.few_rows in
-      let P : View → Type 0 = λ v. Kept m v (turned t Advance (SteppedOn Closed)) in
+      let P : View → Type 0 = λ v. Kept m v (turned t Advance (Ok (SteppedOn Closed))) in
       subst P (sym g.2)
       (record {
         number = k.number;
@@ -223,52 +223,52 @@ module _ (letter n R m : ℕ) (M : List ℕ → Type 0) (small : n ≤ 128) (low
 
   issue_kept : (a b : View) (t : Tally) (r : Result Ticket Refusal) → Issued a r b → Kept m a t → Kept m b (turned t Issue (issue_outcome r))
   issue_kept a b t (Ok x) g k =
-      let P : View → Type 0 = λ v. Kept m v (turned t Issue (Given x.number x.row)) in
-      let q = quiet_kept m a t Issue (Given x.number x.row) (omega arith) (omega arith) (omega arith) (omega arith) refl (λ h. omega arith) (omega arith) k in
-      subst P (sym g.2) (ticketed_kept m a Out (turned t Issue (Given x.number x.row)) q (λ h.
+      let P : View → Type 0 = λ v. Kept m v (turned t Issue (Ok (Given x.number x.row))) in
+      let q = quiet_kept m a t Issue (Ok (Given x.number x.row)) (omega arith) (omega arith) (omega arith) (omega arith) refl (λ h. omega arith) (omega arith) k in
+      subst P (sym g.2) (ticketed_kept m a Out (turned t Issue (Ok (Given x.number x.row))) q (λ h.
       let u = g.0.1.1.0 in
       q.wrote (λ z. let y : ◌≡◌ {A = ℕ} 0 1 = cc in omega arith)))
   issue_kept a b t (Err e) g k =
-      let P : View → Type 0 = λ v. Kept m v (turned t Issue (Refused e)) in
+      let P : View → Type 0 = λ v. Kept m v (turned t Issue (Err e)) in
       subst P (sym g.1) (refused_kept m a t Issue e (λ h. refl) k)
 
   write_kept : (a b : View) (t : Tally) (i j room : ℕ) (r : Result (List ℕ) Refusal) → TriedWrite letter n a i j room r b → Kept m a t →
       Kept m b (turned t (Write i j room) (write_outcome r))
   write_kept a b t i j room (Ok u) g k =
-      let o = Written u in
-      let P : View → Type 0 = λ v. Kept m v (turned t (Write i j room) (Written u)) in
+      let o : Result Outcome Refusal = Ok (Written u) in
+      let P : View → Type 0 = λ v. Kept m v (turned t (Write i j room) (Ok (Written u))) in
       subst P (sym g.1) (record {
         number = k.number;
         improved = omega (arith, k.improved);
         closed = omega (arith, k.closed);
         rows = omega (arith, k.rows);
-        held = quiet_held a.prices t (Write i j room) (Written u) a.state (omega arith) (omega arith) (omega arith) refl (λ h. omega arith) k.held;
+        held = quiet_held a.prices t (Write i j room) (Ok (Written u)) a.state (omega arith) (omega arith) (omega arith) refl (λ h. omega arith) k.held;
         wrote = λ h. absurd (h refl);
       })
   write_kept a b t i j room (Err e) g k =
-      let P : View → Type 0 = λ v. Kept m v (turned t (Write i j room) (Refused e)) in
+      let P : View → Type 0 = λ v. Kept m v (turned t (Write i j room) (Err e)) in
       subst P (sym g.1) (refused_kept m a t (Write i j room) e (λ h. refl) k)
 
-  withdraw_kept : (a b : View) (t : Tally) (i j : ℕ) → Withdrew a i j b → Kept m a t → Kept m b (turned t (Withdraw i j) Withdrawn)
+  withdraw_kept : (a b : View) (t : Tally) (i j : ℕ) → Withdrew a i j b → Kept m a t → Kept m b (turned t (Withdraw i j) (Ok Withdrawn))
   withdraw_kept a b t i j g k =
-      let P : View → Type 0 = λ v. Kept m v (turned t (Withdraw i j) Withdrawn) in
-      let q = quiet_kept m a t (Withdraw i j) Withdrawn (omega arith) (omega arith) (omega arith) (omega arith) refl (λ h. omega arith) (omega arith) k in
+      let P : View → Type 0 = λ v. Kept m v (turned t (Withdraw i j) (Ok Withdrawn)) in
+      let q = quiet_kept m a t (Withdraw i j) (Ok Withdrawn) (omega arith) (omega arith) (omega arith) (omega arith) refl (λ h. omega arith) (omega arith) k in
       ⊎_elim
-      (λ (v : Valid a i j). subst P (sym (g.valid v)) (ticketed_kept m a Unissued (turned t (Withdraw i j) Withdrawn) q (λ h.
+      (λ (v : Valid a i j). subst P (sym (g.valid v)) (ticketed_kept m a Unissued (turned t (Withdraw i j) (Ok Withdrawn)) q (λ h.
       let o = v.2 in
       q.wrote (λ z. let y : ◌≡◌ {A = ℕ} 0 1 = cc in omega arith))))
       (λ (v : Valid a i j → ⊥). subst P (sym (g.other v)) q)
       (validity n R M a i j)
 
   -- one call tried
-  pub call_keeps : (a b : View) (h : List Turn) (c : Call) (o : Outcome) → Sound n R M a → Kept m a (tally h) → TriedCall letter n R M a c o b →
+  pub call_keeps : (a b : View) (h : List Turn) (c : Call) (o : Result Outcome Refusal) → Sound n R M a → Kept m a (tally h) → TriedCall letter n R M a c o b →
       Sound n R M b × Kept m b (tally (h ++ ((c, o) ∷ [])))
   call_keeps a b h c o w k g =
       let both = by_call c g in
       (both.0, subst (Kept m b) (sym (tally_push h c o)) both.1)
     where
-      at_outcome : (c : Call) (o o' : Outcome) → o ≡ o' → Kept m b (turned (tally h) c o') → Kept m b (turned (tally h) c o)
-      at_outcome c o o' e k = let P : Outcome → Type 0 = λ z. Kept m b (turned (tally h) c z) in subst P (sym e) k
+      at_outcome : (c : Call) (o o' : Result Outcome Refusal) → o ≡ o' → Kept m b (turned (tally h) c o') → Kept m b (turned (tally h) c o)
+      at_outcome c o o' e k = let P : Result Outcome Refusal → Type 0 = λ z. Kept m b (turned (tally h) c z) in subst P (sym e) k
 
       by_call : (c : Call) → TriedCall letter n R M a c o b → Sound n R M b × Kept m b (turned (tally h) c o)
       by_call (Begin s p) g = (

@@ -1,6 +1,7 @@
 -- Calls tried in turn: what is kept from one to the next, and the promise at the end.
-use Rattle.std.proofs.Common.{◌≡◌, ℕ, ◌+◌, ◌^◌, ◌<◌, ◌≤◌, List, [], ◌∷◌, ◌++◌, length, get_or, take, drop, set, ℤ, sym, refl, ap, ◌∙◌, subst, arith, length-append}
-use Rattle.std.proofs.lemmas.List.{take_more, take_more_set, drop-set-lt, drop-drop}
+use Rattle.std.proofs.Common.{◌≡◌, ℕ, ◌+◌, ◌^◌, ◌<◌, ◌≤◌, List, [], ◌∷◌, ◌++◌, length, get_or, take, set, ℤ, Ok, Result, sym, refl, ap, subst, arith, length-append}
+use Rattle.rows.specs.declared.refusals.Refusal.{Refusal}
+use Rattle.std.proofs.lemmas.List.{take_more, take_more_set}
 use Rattle.rows.specs.Points.{Point}
 use Rattle.rows.specs.Prices.{ones, planes}
 use Rattle.rows.proofs.Planes.{ones_below_suc}
@@ -19,14 +20,14 @@ use Rattle.runs.specs.Promise.{TurnAfter, Runs, Tried}
 use Rattle.runs.proofs.Counts.{Tally, tally, Held, Kept, call_keeps, gains_few}
 use Rattle.runs.proofs.Plans.{Each, turn_after, each_more}
 
-turns_push : (cs : List Call) (os : List Outcome) (c : Call) (o : Outcome) → length os ≡ length cs →
+turns_push : (cs : List Call) (os : List (Result Outcome Refusal)) (c : Call) (o : Result Outcome Refusal) → length os ≡ length cs →
     turns (cs ++ (c ∷ [])) (os ++ (o ∷ [])) ≡ turns cs os ++ ((c, o) ∷ [])
 turns_push [] [] c o e = refl
 turns_push [] (p ∷ os) c o e = absurd (omega arith)
 turns_push (b ∷ cs) [] c o e = absurd (omega arith)
 turns_push (b ∷ cs) (p ∷ os) c o e = ap (λ (z : List Turn). (b, p) ∷ z) (turns_push cs os c o (omega arith))
 
-runs_more : (letter n R : ℕ) (M : List ℕ → Type 0) (v : View) (cs : List Call) (os : List Outcome) (u : View) (c : Call) (o : Outcome) (w : View) →
+runs_more : (letter n R : ℕ) (M : List ℕ → Type 0) (v : View) (cs : List Call) (os : List (Result Outcome Refusal)) (u : View) (c : Call) (o : Result Outcome Refusal) (w : View) →
     Runs letter n R M v cs os u → TriedCall letter n R M u c o w → Runs letter n R M v (cs ++ (c ∷ [])) (os ++ (o ∷ [])) w
 runs_more letter n R M v [] [] u c o w r s = let P : View → Type 0 = λ z. TriedCall letter n R M z c o w in (w, (subst P (sym r) s, refl))
 runs_more letter n R M v [] (p ∷ os) u c o w r s = absurd r
@@ -34,12 +35,12 @@ runs_more letter n R M v (b ∷ cs) [] u c o w r s = absurd r
 runs_more letter n R M v (b ∷ cs) (p ∷ os) u c o w r s = (r.0, (r.1.0, runs_more letter n R M r.0 cs os u c o w r.1.1 s))
 
 -- after the calls cs with the outcomes os on a job just made, which shows w
-pub record Gone (letter n R m : ℕ) (M : List ℕ → Type 0) (cs : List Call) (os : List Outcome) (w : View) : Type 0 where
+pub record Gone (letter n R m : ℕ) (M : List ℕ → Type 0) (cs : List Call) (os : List (Result Outcome Refusal)) (w : View) : Type 0 where
   pub long : length os ≡ length cs
   pub runs : Runs letter n R M (blank m n) cs os w
   pub sound : Sound n R M w
   pub counts : Kept m w (tally (turns cs os))
-  pub each : (i : ℕ) → i < length (turns cs os) → TurnAfter letter n m M (take i (turns cs os)) (get_or (turns cs os) i (Advance, Withdrawn))
+  pub each : (i : ℕ) → i < length (turns cs os) → TurnAfter letter n m M (take i (turns cs os)) (get_or (turns cs os) i (Advance, Ok Withdrawn))
 
 pub gone_none : (letter n R m : ℕ) (M : List ℕ → Type 0) (v : View) → v ≡ blank m n → Gone letter n R m M [] [] v
 gone_none letter n R m M v e =
@@ -53,7 +54,7 @@ gone_none letter n R m M v e =
     })
 
 module _ (letter n R m : ℕ) (M : List ℕ → Type 0) (small : n ≤ 128) (low : R < 2 ^ 40) (points : (y : List ℕ) → M y → Point n y) where
-  gone_push : (v w : View) (cs : List Call) (os : List Outcome) (c : Call) (o : Outcome) → Gone letter n R m M cs os v → TriedCall letter n R M v c o w →
+  gone_push : (v w : View) (cs : List Call) (os : List (Result Outcome Refusal)) (c : Call) (o : Result Outcome Refusal) → Gone letter n R m M cs os v → TriedCall letter n R M v c o w →
       Gone letter n R m M (cs ++ (c ∷ [])) (os ++ (o ∷ [])) w
   gone_push v w cs os c o g s =
       let h = turns cs os in
@@ -71,12 +72,12 @@ module _ (letter n R m : ℕ) (M : List ℕ → Type 0) (small : n ≤ 128) (low
       }
 
   -- call i of a list, its outcome put into memory
-  pub gone_more : (v w : View) (calls : List Call) (os : List Outcome) (i : ℕ) (d : Call) (o : Outcome) → i < length calls → i < length os →
+  pub gone_more : (v w : View) (calls : List Call) (os : List (Result Outcome Refusal)) (i : ℕ) (d : Call) (o : Result Outcome Refusal) → i < length calls → i < length os →
       Gone letter n R m M (take i calls) (take i os) v → TriedCall letter n R M v (get_or calls i d) o w →
       Gone letter n R m M (take (i + 1) calls) (take (i + 1) (set os i o)) w
   gone_more v w calls os i d o h l g s =
       let P : List Call → Type 0 = λ cs. Gone letter n R m M cs (take (i + 1) (set os i o)) w in
-      let Q : List Outcome → Type 0 = λ z. Gone letter n R m M (take i calls ++ (get_or calls i d ∷ [])) z w in
+      let Q : List (Result Outcome Refusal) → Type 0 = λ z. Gone letter n R m M (take i calls ++ (get_or calls i d ∷ [])) z w in
       subst P (sym (take_more calls i d h)) (subst Q (sym (take_more_set os i o l)) (gone_push v w (take i calls) (take i os) (get_or calls i d) o g s))
 
   -- what the invariant says at the end
@@ -102,7 +103,7 @@ module _ (letter n R m : ℕ) (M : List ℕ → Type 0) (small : n ≤ 128) (low
   finished_at : (ps : List ℤ) (s : State) → s ≡ Finished → margin_at ps s ≡ 0
   finished_at ps s e = ap (λ (z : State). margin_at ps z) e
 
-  pub promised : (cs : List Call) (os : List Outcome) (v : View) → Gone letter n R m M cs os v → Tried letter n R m M cs os v
+  pub promised : (cs : List Call) (os : List (Result Outcome Refusal)) (v : View) → Gone letter n R m M cs os v → Tried letter n R m M cs os v
   promised cs os v g =
       let h = turns cs os in
       let w = g.sound in
@@ -131,11 +132,6 @@ module _ (letter n R m : ℕ) (M : List ℕ → Type 0) (small : n ≤ 128) (low
       }
 
 -- a call told at the augmenter of the job then is one at that of the job before
-pub call_at : {X : Type 0} (letter : ℕ) (d r : X → ℕ) (M : X → List ℕ → Type 0) (a b : X) (v w : View) (c : Call) (o : Outcome) → a ≡ b →
+pub call_at : {X : Type 0} (letter : ℕ) (d r : X → ℕ) (M : X → List ℕ → Type 0) (a b : X) (v w : View) (c : Call) (o : Result Outcome Refusal) → a ≡ b →
     TriedCall letter (d a) (r a) (M a) v c o w → TriedCall letter (d b) (r b) (M b) v c o w
 call_at {X} letter d r M a b v w c o e s = let P : X → Type 0 = λ z. TriedCall letter (d z) (r z) (M z) v c o w in subst P e s
-
--- the memory beyond the outcomes
-pub rest_more : (os es : List Outcome) (i : ℕ) (o : Outcome) → drop i os ≡ drop i es → drop (i + 1) (set os i o) ≡ drop (i + 1) es
-rest_more os es i o e =
-    drop-set-lt (i + 1) os i o (omega arith) ∙ sym (drop-drop 1 i os) ∙ ap (λ (z : List Outcome). drop 1 z) e ∙ drop-drop 1 i es

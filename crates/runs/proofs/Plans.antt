@@ -16,7 +16,7 @@ use Rattle.job.specs.declared.parts.Ticket.{Ticket}
 use Rattle.job.specs.declared.tries.Call.{Call}
 use Rattle.job.specs.declared.tries.Call.TheVariants.{Begin, Advance, Reprice, Issue, Write, Withdraw}
 use Rattle.job.specs.declared.tries.Outcome.{Outcome}
-use Rattle.job.specs.declared.tries.Outcome.TheVariants.{Written, Withdrawn, Refused}
+use Rattle.job.specs.declared.tries.Outcome.TheVariants.{Written, Withdrawn}
 use Rattle.job.specs.Views.{View, IsBegun}
 use Rattle.job.specs.Calls.{Advanced}
 use Rattle.job.specs.Soundness.{Sound}
@@ -27,15 +27,15 @@ use Rattle.runs.specs.Promise.{PlanAfter, TurnAfter}
 use Rattle.runs.proofs.Counts.{Tally, tally, Held, Kept, not_yet}
 
 -- outcomes that are no plan
-row_no_plan : (r : Result (Unit {0}) Refusal) (u : List ℕ) → row_outcome r ≡ Written u → ⊥
+row_no_plan : (r : Result (Unit {0}) Refusal) (u : List ℕ) → row_outcome r ≡ Ok (Written u) → ⊥
 row_no_plan (Ok x) u e = let z : ◌≡◌ {A = ℕ} 0 1 = cc in omega arith
 row_no_plan (Err x) u e = let z : ◌≡◌ {A = ℕ} 0 1 = cc in omega arith
 
-step_no_plan : (r : Result Step Refusal) (u : List ℕ) → step_outcome r ≡ Written u → ⊥
+step_no_plan : (r : Result Step Refusal) (u : List ℕ) → step_outcome r ≡ Ok (Written u) → ⊥
 step_no_plan (Ok x) u e = let z : ◌≡◌ {A = ℕ} 0 1 = cc in omega arith
 step_no_plan (Err x) u e = let z : ◌≡◌ {A = ℕ} 0 1 = cc in omega arith
 
-issue_no_plan : (r : Result Ticket Refusal) (u : List ℕ) → issue_outcome r ≡ Written u → ⊥
+issue_no_plan : (r : Result Ticket Refusal) (u : List ℕ) → issue_outcome r ≡ Ok (Written u) → ⊥
 issue_no_plan (Ok x) u e = let z : ◌≡◌ {A = ℕ} 0 1 = cc in omega arith
 issue_no_plan (Err x) u e = let z : ◌≡◌ {A = ℕ} 0 1 = cc in omega arith
 
@@ -56,7 +56,7 @@ same_plan k d m m' x p p' a a' i i' em ep ea ei = cc
 
 module _ (letter n R m : ℕ) (M : List ℕ → Type 0) (small : n ≤ 128) (low : R < 2 ^ 40) (points : (y : List ℕ) → M y → Point n y) where
   wrote_plan : (a b : View) (h : List Turn) (i j room : ℕ) (r : Result (List ℕ) Refusal) (u : List ℕ) → TriedWrite letter n a i j room r b →
-      Sound n R M a → Kept m a (tally h) → write_outcome r ≡ Written u → PlanAfter letter n m M h u
+      Sound n R M a → Kept m a (tally h) → write_outcome r ≡ Ok (Written u) → PlanAfter letter n m M h u
   wrote_plan a b h i j room (Ok x) u g w k e =
       let f = out_finished n R M a w g.0.0.2 in
       let q = finished_row a.prices (tally h) a.state f k.held in
@@ -74,7 +74,7 @@ module _ (letter n R m : ℕ) (M : List ℕ → Type 0) (small : n ≤ 128) (low
   wrote_plan a b h i j room (Err x) u g w k e = let z : ◌≡◌ {A = ℕ} 0 1 = cc in absurd (omega arith)
 
   -- the turn of a call that was tried
-  pub turn_after : (a b : View) (h : List Turn) (c : Call) (o : Outcome) → Sound n R M a → Kept m a (tally h) → TriedCall letter n R M a c o b →
+  pub turn_after : (a b : View) (h : List Turn) (c : Call) (o : Result Outcome Refusal) → Sound n R M a → Kept m a (tally h) → TriedCall letter n R M a c o b →
       TurnAfter letter n m M h (c, o)
   turn_after a b h (Begin s p) o w k g = record {
     plan = λ u e. absurd (row_no_plan g.0 u (sym g.1.0 ∙ e));
@@ -85,7 +85,7 @@ module _ (letter n R m : ℕ) (M : List ℕ → Type 0) (small : n ≤ 128) (low
     answered = λ e x y. not_yet a.prices (tally h) a.state (refused_first g.0 e (sym g.1.0 ∙ y) g.1.1) k.held;
   }
     where
-      refused_first : (r : Result Step Refusal) (e : Refusal) → step_outcome r ≡ Refused e → Advanced n R M a r b → a.state ≡ NotBegun
+      refused_first : (r : Result Step Refusal) (e : Refusal) → step_outcome r ≡ Err e → Advanced n R M a r b → a.state ≡ NotBegun
       refused_first (Ok s) e x q = let z : ◌≡◌ {A = ℕ} 0 1 = cc in absurd (omega arith)
       refused_first (Err f) e x q = (advance_keeps n R M small low points a b (Err f) q w).refused f refl
   turn_after a b h (Reprice p) o w k g = record {
@@ -106,11 +106,11 @@ module _ (letter n R m : ℕ) (M : List ℕ → Type 0) (small : n ≤ 128) (low
   }
 
   abbrev pub Each : List Turn → Type 0
-  Each h = (i : ℕ) → i < length h → TurnAfter letter n m M (take i h) (get_or h i (Advance, Withdrawn))
+  Each h = (i : ℕ) → i < length h → TurnAfter letter n m M (take i h) (get_or h i (Advance, Ok Withdrawn))
 
   pub each_more : (h : List Turn) (t : Turn) → TurnAfter letter n m M h t → Each h → Each (h ++ (t ∷ []))
   each_more h t g q i l =
-      let D : Turn = (Advance, Withdrawn) in
+      let D : Turn = (Advance, Ok Withdrawn) in
       let P : List Turn → Turn → Type 0 = λ z y. TurnAfter letter n m M z y in
       elim (cases_lt i (length h)) [
         | inl lt ↦

@@ -32,5 +32,5 @@ abbrev pub Finish : ℕ → ℕ → (List ℕ → Type 0) → View → Result (U
 Finish n R M a (Ok _) b = IsBegun a.state × Finishes n R M a b
 Finish n R M a (Err e) b = (a.state ≡ NotBegun) × (e ≡ record { fault = NotBegunFault; place = 0 }) × (b ≡ a)
 
-abbrev pub FinishBy : {X : Type 0} {G : Ghosts X} → (X → ℕ) → (X → ℕ) → (X → List ℕ → Type 0) → Job X G → Result (Unit {0}) Refusal → Job X G → Type 0
-FinishBy d r M a e b = SoundJob d r M a → Finish (d a.below) (r a.below) (M a.below) (view d a) e (view d b)
+abbrev pub FinishBy : {X : Type 0} {G : Ghosts X} → Job X G → Result (Unit {0}) Refusal → Job X G → Type 0
+FinishBy {X} {G} a e b = SoundJob a → Finish (G.dim a.below) (G.reaches a.below) (G.Member a.below) (view a) e (view b)

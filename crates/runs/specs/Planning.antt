@@ -6,7 +6,10 @@ use Rattle.rows.specs.Prices.{price, ones, planes}
 use Rattle.rows.specs.Refusals.{Passes, RefusedBy}
 use Rattle.rows.specs.declared.refusals.Refusal.{Refusal}
 use Rattle.augmenter.specs.Questions.{checks, Cheapest}
+use Rattle.augmenter.specs.declared.Augmenter.{Ghosts}
 use Rattle.plans.specs.Bytes.{plan_bytes}
+use Rattle.job.specs.declared.job.Job.{Job}
+use Rattle.job.specs.Jobs.{view}
 use Rattle.job.specs.declared.parts.Ticketing.TheVariants.{Unissued}
 use Rattle.job.specs.Soundness.{Sound, left}
 use Rattle.job.specs.Views.{View, opened}
@@ -37,10 +40,16 @@ pub record JustBegun (n R : ℕ) (M : List ℕ → Type 0) (v : View) : Type 0 w
   pub ticketing : v.ticketing ≡ Unissued
   pub bound : left v ≡ ones v.prices + planes v.prices
 
+abbrev pub JustBegunBy : {X : Type 0} {G : Ghosts X} → Job X G → Type 0
+JustBegunBy {X} {G} a = JustBegun (G.dim a.below) (G.reaches a.below) (G.Member a.below) (view a)
+
 -- the plan of such a job; there is no refusal
 abbrev pub Concluded : ℕ → ℕ → (List ℕ → Type 0) → View → Result (List ℕ) Refusal → Type 0
 Concluded letter n M v (Ok u) = Planned letter n v.number M v.prices u
 Concluded letter n M v (Err e) = ⊥
+
+abbrev pub ConcludedBy : {X : Type 0} {G : Ghosts X} → Job X G → Result (List ℕ) Refusal → Type 0
+ConcludedBy {X} {G} a r = Concluded G.kind (G.dim a.below) (G.Member a.below) (view a) r
 
 -- a plan exactly where start and prices pass the checks of a question, else the refusal of the first that they do not
 abbrev pub PlanOf : ℕ → ℕ → ℕ → ℕ → (List ℕ → Type 0) → List ℕ → List ℤ → Result (List ℕ) Refusal → Type 0

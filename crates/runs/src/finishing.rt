@@ -8,17 +8,13 @@ use rows::refusals::Refusal;
 /// Runs a begun job to its finish. No more questions are put than may still come; advances beyond the finish ask nothing.
 pub fn finish<A: Augmenter>(job: &mut Job<A>) -> Result<(), Refusal>
     ensures below { job.new.below ≡ job.old.below }
-    ensures ends { FinishBy A.dim A.reaches A.Member job.old result job.new }
+    ensures ends { FinishBy job.old result job.new }
     ensures number { job.new.number ≡ job.old.number }
     ensures ticketing { job.new.ticketing ≡ job.old.ticketing }
 {
     for _ in 0..job.questions_left() {
-        if let Err(refusal) = job.advance() {
-            return Err(refusal);
-        }
+        job.advance()?;
     }
-    match job.advance() {
-        Ok(_) => Ok(()),
-        Err(refusal) => Err(refusal),
-    }
+    job.advance()?;
+    Ok(())
 }

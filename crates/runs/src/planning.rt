@@ -1,5 +1,4 @@
-ghost use Rattle.job.specs.Jobs.{view};
-ghost use Rattle.runs.specs.Planning.{JustBegun, Concluded, PlanOf};
+ghost use Rattle.runs.specs.Planning.{JustBegunBy, ConcludedBy, PlanOf};
 
 use crate::finishing::finish;
 use augmenter::Augmenter;
@@ -8,8 +7,8 @@ use rows::refusals::Refusal;
 
 /// Runs a job that has just begun to its finish and writes its plan, neither of which is refused.
 fn conclude<A: Augmenter>(job: &mut Job<A>) -> Result<[u8; 46], Refusal>
-    requires { JustBegun (A.dim job.old.below) (A.reaches job.old.below) (A.Member job.old.below) (view A.dim job.old) }
-    ensures { Concluded A.kind (A.dim job.old.below) (A.Member job.old.below) (view A.dim job.old) result }
+    requires { JustBegunBy job.old }
+    ensures { ConcludedBy job.old result }
 {
     finish(job)?;
     let mut bytes = [0; plans::LENGTH];

@@ -155,3 +155,12 @@ module _ (cs : List Said) (c : Said) (s : Stage) (h : run (Some Dimension) (map 
 
   pub order_bad : next s c.0 ≡ None → Continues cs c → ⊥
   order_bad n (ds, i) = none Done (sym (on ds ∙ ap (λ (o : Option Stage). run o ds) n) ∙ forward _ i)
+
+-- a command that may come next has stages before and after it
+pub staged : (cs : List Said) (c : Said) → Continues cs c → (s t : Stage) × (run (Some Dimension) (map letter cs) ≡ Some s) × (next s c.0 ≡ Some t)
+staged cs c (rest, i) =
+    let o = run (Some Dimension) (map letter cs) in
+    let e : run o (c.0 ∷ rest) ≡ Some Done = sym (run_append (Some Dimension) (map letter cs) (c.0 ∷ rest)) ∙ forward _ i in
+    let l = live o (c.0 ∷ rest) e in
+    let m = live (next l.0 c.0) rest (onward o (c.0 ∷ rest) l.0 e l.1) in
+    (l.0, m.0, l.1, m.1)

@@ -1,5 +1,5 @@
 -- One command read and taken, and what follows for the whole script: how far it begins, what it describes, what refuses it.
-use Rattle.std.proofs.Common.{◌≡◌, ℕ, ◌+◌, ◌-◌, ◌<◌, ◌≤◌, ◌⊎◌, List, [], ◌∷◌, ◌++◌, length, get_or, take, Some, None, Ok, Err, Option, sym, refl, ap, ◌∙◌, subst, inl, inr, ⊎_elim, arith, length-append, take-add}
+use Rattle.std.proofs.Common.{◌≡◌, ℕ, ◌+◌, ◌-◌, ◌<◌, ◌≤◌, ◌⊎◌, List, [], ◌∷◌, ◌++◌, length, get_or, take, true, is_ok, MatchResult, Result, Some, None, Ok, Err, Option, sym, refl, ap, ◌∙◌, subst, inl, inr, ⊎_elim, arith, length-append, take-add}
 use Rattle.std.specs.List.{flat_map}
 use Rattle.std.proofs.lemmas.List.{flat_map_more, same_from_push}
 use Rattle.rows.specs.Refusals.{Passes, RefusedBy, ask_here, number as numbered}
@@ -11,7 +11,7 @@ use Rattle.commands.specs.Commands.{Said, Whole, bytes, said}
 use Rattle.commands.specs.Reading.{Known, Next, operand_width, reading_checks, standing}
 use Rattle.commands.specs.declared.command.Command.{Command}
 use Rattle.commands.proofs.Runs.{part_is, place_after, whole}
-use Rattle.script.specs.Scripts.{Begins, Describes, Ended, Means, Refuses, Stops, Upto, command_checks}
+use Rattle.script.specs.Scripts.{Begins, Describes, Ended, Refuses, Stops, Upto, command_checks}
 use Rattle.script.specs.Stages.{Holds, Takes, run}
 use Rattle.script.specs.declared.draft.Draft.{Draft}
 use Rattle.script.specs.declared.draft.Stage.{Stage}
@@ -44,7 +44,7 @@ not_ended_more : (cs : List Said) (c : Said) → (c.0 ≡ 90 → ⊥) → Ended 
 not_ended_more cs c n (b, p, e) = n (ap (λ (x : Said). x.0) (same_from_push cs b c (90, p) e).1)
 
 -- what a reader over t, which is s, gave
-pub read_is : (s t : List ℕ) (a b : ℕ) (f : Option (ℕ × Command)) (o : Option (ℕ × Command)) → t ≡ s → f ≡ o → Next t a (Ok f) b → Next s a (Ok o) b
+read_is : (s t : List ℕ) (a b : ℕ) (f : Option (ℕ × Command)) (o : Option (ℕ × Command)) → t ≡ s → f ≡ o → Next t a (Ok f) b → Next s a (Ok o) b
 read_is s t a b f o e q h = subst (λ (x : Option (ℕ × Command)). Next s a (Ok x) b) q (subst (λ (x : List ℕ). Next x a (Ok f) b) e h)
 
 -- one command p is read from a to b, after the commands cs
@@ -86,8 +86,10 @@ by_last (Some Prices) s e = let y : ◌≡◌ {A = ℕ} 0 1 = cc in absurd (omeg
 by_last (Some Ending) s e = cc
 by_last (Some Done) s e = let y : ◌≡◌ {A = ℕ} 0 1 = cc in absurd (omega arith)
 
-means : (cs : List Said) (d : Draft) → Holds cs d → Means cs d.problem
-means cs d h = record { dimension = h.named; reach = h.reached; listed = h.listed; prices = h.prices; start = h.started }
+-- a draft that did not refuse a command took it
+took : {d e : Draft} {c : Said} (r : Result (Unit {0}) Fault) → true ≡ is_ok r → Takes d c r e → Takes d c (Ok tt) e
+took (Ok u) o t = t
+took (Err f) o t = let z : ◌≡◌ {A = ℕ} 0 1 = cc in absurd (omega arith)
 
 -- the ends of a parse, and one turn of it
 refuses_at : (s : List ℕ) (a : ℕ) (cs : List Said) (e : Refusal) → length s ≤ 65536 → Upto s a cs → Stops s a cs e → Refuses s e
@@ -108,26 +110,37 @@ pub going_none : (s : List ℕ) (a : ℕ) (d : Draft) → length s ≤ 65536 →
 going_none s a d h e k =
     record { short = h; cs = []; upto = (omega arith, ap (λ (z : ℕ). take z s) (sym e), begins_none); holds = k; open_ended = not_ended }
 
-pub missing_end : (s : List ℕ) (a b : ℕ) (d : Draft) → Going s a d → Next s a (Ok None) b → Refuses s (record { fault = Order; place = length s })
-missing_end s a b d g h =
-    refuses_at s (length s) g.cs _ g.short (subst (λ (k : ℕ). Upto s k g.cs) h.0 g.upto) (inr (inl (g.open_ended, refl, refl)))
-
 pub unreadable : (s : List ℕ) (a b : ℕ) (d : Draft) (e : Refusal) → Going s a d → Next s a (Err e) b → Refuses s e
 unreadable s a b d e g h = refuses_at s a g.cs e g.short g.upto (refused_read s a b g.cs e h g.open_ended)
 
-module _ (s : List ℕ) (a b : ℕ) (p : ℕ × Command) (d : Draft) (g : Going s a d) (h : Next s a (Ok (Some p)) b) where
-  pub not_taken : (f : Fault) (e : Draft) → Takes d (said p.1) (Err f) e → Refuses s (record { fault = f; place = p.0 })
-  not_taken f e t =
-      subst (λ (k : ℕ). Refuses s (record { fault = f; place = k })) (sym h.2)
-      (refuses_at s a g.cs _ g.short g.upto (refused_command s a b p g.cs h g.upto _ g.open_ended (t g.cs g.holds a)))
+-- one turn of a parse: a reader over t, which is s, gave the command p, and d is the draft before it
+module _ (s t : List ℕ) (a b : ℕ) (f : Option (ℕ × Command)) (p : ℕ × Command) (d : Draft) (v : (t ≡ s) × Going s a d) (i : f ≡ Some p) (x : Next t a (Ok f) b) where
+  g : Going s a d
+  g = v.1
 
-  module _ (e : Draft) (t : Takes d (said p.1) (Ok tt) e) where
+  h : Next s a (Ok (Some p)) b
+  h = read_is s t a b f (Some p) v.0 i x
+
+  pub whole_read : Whole (said p.1)
+  whole_read = whole s a b p h
+
+  -- r is what the draft answers, and w the refusal that it becomes
+  pub not_taken : (e : Draft) (w : Refusal) (r : Result (Unit {0}) Fault) → MatchResult r (λ _. ⊥) (λ k. w ≡ record { fault = k; place = p.0 }) → Takes d (said p.1) r e → Refuses s w
+  not_taken e w (Ok u) k y = absurd k
+  not_taken e w (Err z) k y =
+      subst (Refuses s) (sym k) (subst (λ (m : ℕ). Refuses s (record { fault = z; place = m })) (sym h.2)
+      (refuses_at s a g.cs _ g.short g.upto (refused_command s a b p g.cs h g.upto _ g.open_ended (y g.cs g.holds a))))
+
+  module _ (e : Draft) (r : Result (Unit {0}) Fault) (o : true ≡ is_ok r) (k : Takes d (said p.1) r e) where
+    y : Takes d (said p.1) (Ok tt) e
+    y = took r o k
+
     more : Upto s b (g.cs ++ said p.1 ∷ [])
-    more = upto_more s a b p g.cs h g.upto (t g.cs g.holds a).0
+    more = upto_more s a b p g.cs h g.upto (y g.cs g.holds a).0
 
     pub going_more : ((said p.1).0 ≡ 90 → ⊥) → Going s b e
     going_more n =
-        record { short = g.short; cs = g.cs ++ said p.1 ∷ []; upto = more; holds = (t g.cs g.holds a).1; open_ended = not_ended_more g.cs (said p.1) n }
+        record { short = g.short; cs = g.cs ++ said p.1 ∷ []; upto = more; holds = (y g.cs g.holds a).1; open_ended = not_ended_more g.cs (said p.1) n }
 
     pub past_end : (said p.1).0 ≡ 90 → b < length s → Refuses s (record { fault = Order; place = b })
     past_end z l = refuses_at s b (g.cs ++ said p.1 ∷ []) _ g.short more (inl (ended g.cs (said p.1) z, l, refl))
@@ -135,4 +148,4 @@ module _ (s : List ℕ) (a b : ℕ) (p : ℕ × Command) (d : Draft) (g : Going 
     pub described : (said p.1).0 ≡ 90 → length s ≤ b → Describes s e.problem
     described z l =
         let n : b ≡ length s = omega (arith, (place_after s a b p h).1) in
-        (g.short, (g.cs ++ said p.1 ∷ [], subst (λ (k : ℕ). Upto s k (g.cs ++ said p.1 ∷ [])) n more, ended g.cs (said p.1) z, means (g.cs ++ said p.1 ∷ []) e (t g.cs g.holds a).1))
+        (g.short, (g.cs ++ said p.1 ∷ [], subst (λ (k : ℕ). Upto s k (g.cs ++ said p.1 ∷ [])) n more, ended g.cs (said p.1) z, (y g.cs g.holds a).1.means))

@@ -110,11 +110,15 @@ PriceAt cs i z = Last (Prices i) price_of (pos 0) cs z
 abbrev pub StartIs : List Said → List ℕ → Type 0
 StartIs cs o = Last (λ c. c.0 ≡ 83) (λ c. c.1) (replicate 16 0) cs o
 
+-- the rows that a problem lists
+abbrev pub listed_rows : Problem → List (List ℕ)
+listed_rows p = take p.rows.count p.rows.slots
+
 -- what the commands of a whole script mean: a later price for the same coordinate replaces the earlier, and a price that is not named is 0
 pub record Means (cs : List Said) (p : Problem) : Type 0 where
   pub dimension : p.dimension ≡ dimension_of cs
   pub reach : ReachIs cs p.reach
-  pub listed : take p.count p.rows ≡ rows_of cs
+  pub listed : listed_rows p ≡ rows_of cs
   pub prices : (i : ℕ) → i < 128 → PriceAt cs i (slice_index_or p.prices i (pos 0))
   pub start : StartIs cs p.start
 
@@ -130,7 +134,7 @@ Parsed s (Err e) = Refuses s e
 pub record Alike (p q : Problem) : Type 0 where
   pub dimension : p.dimension ≡ q.dimension
   pub reach : p.reach ≡ q.reach
-  pub listed : take p.count p.rows ≡ take q.count q.rows
+  pub listed : listed_rows p ≡ listed_rows q
   pub prices : (i : ℕ) → i < 128 → slice_index_or p.prices i (pos 0) ≡ slice_index_or q.prices i (pos 0)
   pub start : p.start ≡ q.start
 

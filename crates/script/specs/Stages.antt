@@ -1,11 +1,12 @@
 -- How far a parser is. These words are no part of what a script means: they only say what the parser's private functions keep.
--- cs are the commands taken so far, d and e a draft before and after one more.
-use Rattle.std.specs.Prelude.{◌≡◌, ℕ, ◌<◌, cond, List, [], ◌∷◌, ◌++◌, map, length, take, pos, Some, None, Ok, Err, Option, Result, ◌==◌, slice_index_or}
+-- cs are the commands taken so far, d and e a draft before and after one more, p and q a problem.
+use Rattle.std.specs.Prelude.{◌≡◌, ℕ, cond, List, [], ◌∷◌, ◌++◌, map, Some, None, Ok, Err, Option, Result, ◌==◌}
 use Rattle.rows.specs.Refusals.{Passes, RefusedBy}
 use Rattle.rows.specs.declared.refusals.Fault.{Fault}
 use Rattle.commands.specs.Commands.{Said}
-use Rattle.script.specs.Scripts.{PriceAt, ReachIs, StartIs, command_checks, dimension_of, letter, rows_of}
+use Rattle.script.specs.Scripts.{Continues, Means, command_checks, letter}
 use Rattle.script.specs.declared.draft.Draft.{Draft}
+use Rattle.script.specs.declared.problem.Problem.{Problem}
 use Rattle.script.specs.declared.draft.Stage.{Stage}
 use Rattle.script.specs.declared.draft.Stage.TheVariants.{Dimension, Kind, Members, Prices, Ending, Done}
 
@@ -23,16 +24,15 @@ run None w = None
 run (Some s) [] = Some s
 run (Some s) (x ∷ w) = run (next s x) w
 
--- the draft d holds what the commands cs say
+-- the draft d holds what the commands cs say: how far they are, and what they mean
 pub record Holds (cs : List Said) (d : Draft) : Type 0 where
   pub stage : run (Some Dimension) (map letter cs) ≡ Some d.stage
-  pub named : d.problem.dimension ≡ dimension_of cs
-  pub reached : ReachIs cs d.problem.reach
-  pub room : length d.problem.rows ≡ 256
-  pub wide : length d.problem.prices ≡ 128
-  pub listed : take d.problem.count d.problem.rows ≡ rows_of cs
-  pub prices : (i : ℕ) → i < 128 → PriceAt cs i (slice_index_or d.problem.prices i (pos 0))
-  pub started : StartIs cs d.problem.start
+  pub means : Means cs d.problem
+
+-- the problem p, which the commands cs mean, adds a command c that may come next and becomes q, or refuses it by a fault, wherever it stands
+abbrev pub Adds : Problem → Said → Result (Unit {0}) Fault → Problem → Type 0
+Adds p c (Ok _) q = (cs : List Said) → Means cs p → Continues cs c → (a : ℕ) → Passes (command_checks a cs c) × Means (cs ++ c ∷ []) q
+Adds p c (Err f) q = (cs : List Said) → Means cs p → Continues cs c → (a : ℕ) → RefusedBy (command_checks a cs c) (record { fault = f; place = a })
 
 -- the draft d takes the command c and becomes e, or refuses it by a fault, wherever it stands
 abbrev pub Takes : Draft → Said → Result (Unit {0}) Fault → Draft → Type 0

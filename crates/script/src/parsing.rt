@@ -10,6 +10,7 @@ use rows::refusals::{Fault, Refusal};
 pub const LARGEST_SCRIPT: usize = 65_536;
 
 /// The problem that a script describes, or the first refusal.
+#[tactic(auto, using(crate::proofs::Once::settled))]
 pub fn parse(script: &[u8]) -> Result<Problem, Refusal>
     ensures gives { Parsed script.now result }
     ensures settled { Settled script.now }
@@ -19,22 +20,17 @@ pub fn parse(script: &[u8]) -> Result<Problem, Refusal>
     }
     let mut reader = Reader::new(script);
     let mut draft = Draft::new();
-    loop {
-        let found = reader.next()?;
-        let Some((place, command)) = found else {
-            return Err(Fault::Order.at(script.len()));
-        };
-        if let Err(fault) = draft.take(&command) {
-            return Err(fault.at(place));
-        }
+    while let Some((place, command)) = reader.next()? {
+        draft.take(&command).map_err(|fault| fault.at(place))?;
+        // the letter, since rules and promise speak of letters
         let (letter, _) = command.parts();
         if letter == b'Z' {
             let end = reader.place();
             if end < script.len() {
                 return Err(Fault::Order.at(end));
             }
-            let Draft { stage: _, problem } = draft;
-            return Ok(problem);
+            return Ok(draft.problem);
         }
     }
+    Err(Fault::Order.at(script.len()))
 }

@@ -1,6 +1,7 @@
 ghost use Rattle.std.specs.Prelude.{◌≤◌};
 
 use rows::packed::Packed;
+use rows::packed_rows::PackedRows;
 use rows::points::Padded;
 
 /// What a script describes: a listed set, prices and a start.
@@ -8,13 +9,10 @@ use rows::points::Padded;
 pub struct Problem {
     pub dimension: u8,
     pub reach: u64,
-    /// how many rows are listed
-    pub count: usize,
-    /// the listed rows, at the start of an array
-    pub rows: [Packed; 256],
+    /// the listed rows
+    pub rows: PackedRows,
     /// the prices by coordinate, 0 from the dimension on
     pub prices: Padded<i64>,
     pub start: Packed,
     ghost small: { dimension ≤ 128 },
-    ghost few: { count ≤ 256 },
 }

@@ -1,6 +1,5 @@
 //! Parts of scripts, to be joined.
 
-use planning::answer::Answer;
 use planning::answering::answer;
 use std::alloc::{AllocError, Global};
 
@@ -29,19 +28,14 @@ pub fn joined(heap: Global, parts: &[&[u8]]) -> Result<Vec<u8>, AllocError> {
     Ok(script)
 }
 
-/// The number and the place of the E that a script is answered, (0, 0) for a plan.
-pub fn refusal(script: &[u8]) -> (u8, u32) {
-    match answer(script) {
-        Answer::Plan(_) => (0, 0),
-        Answer::Refused(bytes) => (
-            bytes[1],
-            u32::from_be_bytes([bytes[2], bytes[3], bytes[4], bytes[5]]),
-        ),
-    }
+/// The number and the place of the E that a script is answered, if it is no plan.
+pub fn refusal(script: &[u8]) -> Option<(u8, u32)> {
+    let [_, number, a, b, c, d] = answer(script).err()?;
+    Some((number, u32::from_be_bytes([a, b, c, d])))
 }
 
 /// The same for a script of parts.
-pub fn refused(heap: Global, parts: &[&[u8]]) -> Result<(u8, u32), AllocError> {
+pub fn refused(heap: Global, parts: &[&[u8]]) -> Result<Option<(u8, u32)>, AllocError> {
     let script = joined(heap, parts)?;
     Ok(refusal(script.as_slice()))
 }

@@ -1,4 +1,5 @@
 use crate::parts::*;
+use planning::answer::bytes;
 use planning::answering::answer;
 use std::alloc::{AllocError, Global};
 use std::test::Fail;
@@ -6,7 +7,7 @@ use std::test::Fail;
 /// What a script of parts is answered.
 fn answered(heap: Global, parts: &[&[u8]]) -> Result<Vec<u8>, AllocError> {
     let script = joined(heap, parts)?;
-    answer(script.as_slice()).bytes().to_vec(heap)
+    bytes(&answer(script.as_slice())).to_vec(heap)
 }
 
 #[test]

@@ -1,120 +1,147 @@
 //! What a command says, in words.
 
 use crate::operands::{byte, dimension, number_from, packed, signed_byte, signed_from, units_from};
-use crate::points::point;
-use crate::words::{Text, class_name, counted, kind_name, letter_name, reason};
+use crate::points::Point;
+use crate::words::{Count, Letter, kind_name};
 use commands::command::{Command, operand_width};
 use rows::classes::Class;
 use rows::refusals::Fault;
-use std::alloc::Global;
-use std::fmt::Display;
+use std::fmt;
 
 /// What a command says, with the dimension that is known so far.
-pub fn line(heap: Global, command: Command<'_>, known: Option<usize>) -> Text {
-    match command {
-        Command::Dimension(o) => dimension_line(heap, o),
-        Command::Reach(o) => one(heap, "listed set with reach", number_from(o, 0)),
-        Command::ListedRow(o) => point_line(heap, "listed row", o, known),
-        Command::FlowNodes(o) => count_line(heap, "unit flows over", o, "node", "nodes"),
-        Command::GraphNodes(o) => count_line(heap, "bases of a graph with", o, "node", "nodes"),
-        Command::Arc(o) => two(
-            heap,
-            "arc or edge from node",
-            byte(o, 0),
-            "to node",
-            byte(o, 1),
-        ),
-        Command::Balance(o) => two(heap, "node", byte(o, 0), "has balance", signed_byte(o, 1)),
-        Command::Classes(o) => count_line(heap, "bases by class with", o, "class", "classes"),
-        Command::Class(o) => one(heap, "next coordinate is of class", byte(o, 0)),
-        Command::Capacity(o) => two(heap, "class", byte(o, 0), "has capacity", byte(o, 1)),
-        Command::Price(o) => two(heap, "coordinate", byte(o, 0), "costs", signed_from(o, 1)),
-        Command::Units(o) => units_line(heap, byte(o, 0), byte(o, 1), units_from(o, 2)),
-        Command::Start(o) => point_line(heap, "start", o, known),
-        Command::End => String::from_str(heap, "end"),
-        Command::Kind(o) => kind_line(heap, byte(o, 0)),
-        Command::JobNumber(o) => one(heap, "job number", number_from(o, 0)),
-        Command::Point(o) => point_line(heap, "chosen point", o, known),
-        Command::Cost(o) => one(heap, "chosen point costs", signed_from(o, 0)),
-        Command::Asked(o) => count_line(heap, "asked", o, "question", "questions"),
-        Command::Improved(o) => count_line(heap, "made", o, "improvement", "improvements"),
-        Command::Refused(o) => refusal_line(heap, byte(o, 0), number_from(o, 1)),
+#[derive(Clone, Copy)]
+pub struct Line<'a> {
+    pub command: Command<'a>,
+    pub known: Option<usize>,
+}
+
+impl Line<'_> {
+    fn point(&self, operand: &[u8]) -> Point {
+        Point {
+            bytes: packed(operand),
+            known: self.known,
+        }
     }
 }
 
-/// Words and a number.
-fn one(heap: Global, what: &str, number: impl Display + Drop) -> Text {
-    format!(in heap; "{what} {number}")
+impl fmt::Display for Line<'_> {
+    fn fmt<W: fmt::Write>(&self, f: &mut fmt::Formatter<W>) -> fmt::Result {
+        match self.command {
+            Command::Dimension(o) => write_dimension(f, o),
+            Command::Reach(o) => write!(f, "listed set with reach {}", number_from(o, 0)),
+            Command::ListedRow(o) => write!(f, "listed row {}", self.point(o)),
+            Command::FlowNodes(o) => write!(f, "unit flows over {}", nodes(o)),
+            Command::GraphNodes(o) => write!(f, "bases of a graph with {}", nodes(o)),
+            Command::Arc(o) => write!(
+                f,
+                "arc or edge from node {} to node {}",
+                byte(o, 0),
+                byte(o, 1)
+            ),
+            Command::Balance(o) => write!(
+                f,
+                "node {} has balance {}",
+                byte(o, 0),
+                signed_byte(o, 1)
+            ),
+            Command::Classes(o) => write!(
+                f,
+                "bases by class with {}",
+                count(o, "class", "classes")
+            ),
+            Command::Class(o) => write!(f, "next coordinate is of class {}", byte(o, 0)),
+            Command::Capacity(o) => write!(f, "class {} has capacity {}", byte(o, 0), byte(o, 1)),
+            Command::Price(o) => write!(f, "coordinate {} costs {}", byte(o, 0), signed_from(o, 1)),
+            Command::Units(o) => write_units(f, byte(o, 0), byte(o, 1), units_from(o, 2)),
+            Command::Start(o) => write!(f, "start {}", self.point(o)),
+            Command::End => f.write_str("end"),
+            Command::Kind(o) => write_kind(f, byte(o, 0)),
+            Command::JobNumber(o) => write!(f, "job number {}", number_from(o, 0)),
+            Command::Point(o) => write!(f, "chosen point {}", self.point(o)),
+            Command::Cost(o) => write!(f, "chosen point costs {}", signed_from(o, 0)),
+            Command::Asked(o) => write!(f, "asked {}", count(o, "question", "questions")),
+            Command::Improved(o) => write!(f, "made {}", count(o, "improvement", "improvements")),
+            Command::Refused(o) => write_refusal(f, byte(o, 0), number_from(o, 1)),
+        }
+    }
 }
 
-/// Words and a number, twice.
-fn two(heap: Global, what: &str, number: u8, does: &str, to: impl Display + Drop) -> Text {
-    format!(in heap; "{what} {number} {does} {to}")
+fn nodes(operand: &[u8]) -> Count {
+    count(operand, "node", "nodes")
 }
 
-fn dimension_line(heap: Global, operand: &[u8]) -> Text {
+fn count(operand: &[u8], one: &'static str, many: &'static str) -> Count {
+    Count(number_from(operand, 0), one, many)
+}
+
+fn write_dimension<W: fmt::Write>(f: &mut fmt::Formatter<W>, operand: &[u8]) -> fmt::Result {
     let n = byte(operand, 0);
     match dimension(operand) {
-        Some(_) => format!(in heap; "dimension {n}"),
-        None => format!(in heap; "dimension {n}, which is above 128"),
+        Some(_) => write!(f, "dimension {n}"),
+        None => write!(f, "dimension {n}, which is above 128"),
     }
 }
 
-fn point_line(heap: Global, what: &str, operand: &[u8], known: Option<usize>) -> Text {
-    format!(in heap; "{what} {}", point(heap, &packed(operand), known)?)
-}
-
-fn count_line(heap: Global, what: &str, operand: &[u8], one: &str, many: &str) -> Text {
-    format!(in heap;
-        "{what} {}",
-        counted(heap, number_from(operand, 0), one, many)?
-    )
-}
-
-fn units_line(heap: Global, coordinate: u8, letter: u8, units: u32) -> Text {
-    let count = counted(heap, u64::from(units), "unit", "units")?;
-    match Class::of_letter(letter as char) {
-        Some(class) => format!(in heap;
-            "coordinate {coordinate}: {count} of {}, {} days each, costs {}",
-            class_name(class),
+fn write_units<W: fmt::Write>(
+    f: &mut fmt::Formatter<W>,
+    coordinate: u8,
+    letter: u8,
+    units: u32,
+) -> fmt::Result {
+    let count = Count(u64::from(units), "unit", "units");
+    match Class::try_from(letter as char) {
+        Ok(class) => write!(
+            f,
+            "coordinate {coordinate}: {count} of {class}, {} days each, costs {}",
             class.days(),
             class.price(units)
         ),
-        None => format!(in heap;
+        Err(_) => write!(
+            f,
             "coordinate {coordinate}: {count} of an unknown class, letter {}",
-            letter_name(heap, letter)?
+            Letter(letter)
         ),
     }
 }
 
-fn kind_line(heap: Global, letter: u8) -> Text {
+fn write_kind<W: fmt::Write>(f: &mut fmt::Formatter<W>, letter: u8) -> fmt::Result {
     match kind_name(letter as char) {
-        Some(name) => format!(in heap; "kind {}, {name}", letter as char),
-        None => format!(in heap; "unknown kind, letter {}", letter_name(heap, letter)?),
+        Some(name) => write!(f, "kind {}, {name}", letter as char),
+        None => write!(f, "unknown kind, letter {}", Letter(letter)),
     }
 }
 
-fn refusal_line(heap: Global, number: u8, place: u64) -> Text {
-    let why = match Fault::of_number(number) {
-        Some(fault) => reason(fault),
-        None => "no refusal has this number",
-    };
-    format!(in heap; "refused by {number} at place {place}: {why}")
+fn write_refusal<W: fmt::Write>(f: &mut fmt::Formatter<W>, number: u8, place: u64) -> fmt::Result {
+    write!(f, "refused by {number} at place {place}: ")?;
+    match Fault::try_from(number) {
+        Ok(fault) => write!(f, "{fault}"),
+        Err(_) => f.write_str("no refusal has this number"),
+    }
 }
 
 /// Why a run cannot be read on at a place.
-pub fn stop(heap: Global, run: &[u8], place: usize) -> Text {
-    let letter = byte(run, place);
-    match operand_width(letter as char) {
-        None => format!(in heap;
-            "stops here: no command has the letter {}",
-            letter_name(heap, letter)?
-        ),
-        Some(width) => format!(in heap;
-            "stops here: the operand of {} is cut short, it has {} of {}",
-            letter as char,
-            run.len().saturating_sub(place).saturating_sub(1),
-            counted(heap, width as u64, "byte", "bytes")?
-        ),
+#[derive(Clone, Copy)]
+pub struct Stop<'a> {
+    pub run: &'a [u8],
+    pub place: usize,
+}
+
+impl fmt::Display for Stop<'_> {
+    fn fmt<W: fmt::Write>(&self, f: &mut fmt::Formatter<W>) -> fmt::Result {
+        let letter = byte(self.run, self.place);
+        match operand_width(letter as char) {
+            None => write!(
+                f,
+                "stops here: no command has the letter {}",
+                Letter(letter)
+            ),
+            Some(width) => write!(
+                f,
+                "stops here: the operand of {} is cut short, it has {} of {}",
+                letter as char,
+                self.run.len().saturating_sub(self.place).saturating_sub(1),
+                Count(width as u64, "byte", "bytes")
+            ),
+        }
     }
 }

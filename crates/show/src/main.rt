@@ -9,8 +9,9 @@ mod words;
 
 use commands::command::Command;
 use commands::reader::Reader;
-use lines::{line, stop};
+use lines::{Line, Stop};
 use operands::dimension;
+use rows::refusals::Refusal;
 use std::io::Read;
 use std::{env, fs, io};
 
@@ -18,15 +19,15 @@ use std::{env, fs, io};
 const MOST: usize = 1024 * 1024;
 
 fn main(rt: HostRuntime) -> io::Result<()> {
-    let mut named = false;
-    for (i, name) in env::args(&rt)?.enumerate() {
-        if i > 0 {
-            named = true;
-            println!(rt; "{name}:")?;
-            show_named(&rt, name.as_str())?;
-        }
+    let mut names = env::args(&rt)?.skip(1).peekable();
+    if names.peek().is_none() {
+        return show_input(&rt);
     }
-    if named { Ok(()) } else { show_input(&rt) }
+    for name in names {
+        println!(rt; "{name}:")?;
+        show_named(&rt, name.as_str())?;
+    }
+    Ok(())
 }
 
 fn show_named(rt: &HostRuntime, name: &str) -> io::Result<()> {
@@ -58,21 +59,22 @@ fn show(rt: &HostRuntime, run: &[u8]) -> io::Result<()> {
 fn show_commands(rt: &HostRuntime, run: &[u8]) -> io::Result<()> {
     let mut reader = Reader::new(run);
     let mut known = None;
-    // each command takes a byte at least, so these are turns enough
+    // A refused reader stays where it is, so it is no iterator that ends; each command takes a byte at least, so these are turns enough.
     for _ in 0..run.len() {
-        match reader.next() {
-            Ok(Some((place, command))) => {
-                known = dimension_after(command, known);
-                let (letter, _) = command.parts();
-                let text = line(rt.alloc(), command, known)?;
-                println!(rt; "{place:>6}  {}  {text}", letter as char)?;
-            }
+        let (place, command) = match reader.next() {
+            Ok(Some(read)) => read,
             Ok(None) => return Ok(()),
-            Err(refusal) => {
-                let text = stop(rt.alloc(), run, refusal.place)?;
-                return println!(rt; "{:>6}     {text}", refusal.place);
+            Err(Refusal { place, .. }) => {
+                return println!(rt; "{place:>6}     {}", Stop { run, place });
             }
-        }
+        };
+        known = dimension_after(command, known);
+        let (letter, _) = command.parts();
+        println!(rt;
+            "{place:>6}  {}  {}",
+            letter as char,
+            Line { command, known }
+        )?;
     }
     Ok(())
 }

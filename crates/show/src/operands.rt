@@ -4,12 +4,13 @@ ghost use Rattle.std.specs.Prelude.{◌≡◌, ◌<◌, ◌≤◌, length, Match
 
 use commands::numbers::number;
 use rows::packed::Packed;
+use rows::points::LARGEST_DIMENSION;
 
 /// The byte at an index.
 pub fn byte(operand: &[u8], i: usize) -> u8
     ensures { result ≡ slice_index operand.now i }
 {
-    if i < operand.len() { operand[i] } else { 0 }
+    operand.get(i).copied().unwrap_or(0)
 }
 
 /// The number from an index on.
@@ -37,15 +38,12 @@ pub fn dimension(operand: &[u8]) -> Option<usize>
     ensures { MatchOption result (128 < slice_index operand.now 0) (λ n. (n ≡ slice_index operand.now 0) × (n ≤ 128)) }
 {
     let n = usize::from(byte(operand, 0));
-    if n <= 128 { Some(n) } else { None }
+    (n <= LARGEST_DIMENSION).then_some(n)
 }
 
 /// The packed point of an operand.
 pub fn packed(operand: &[u8]) -> Packed
     ensures { length operand.now ≡ 16 → result ≡ operand.now }
 {
-    match <&Packed>::try_from(operand) {
-        Ok(bytes) => *bytes,
-        Err(_) => [0; 16],
-    }
+    <&Packed>::try_from(operand).copied().unwrap_or([0; 16])
 }

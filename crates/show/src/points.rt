@@ -1,56 +1,46 @@
 //! Packed points as text.
 
-use crate::words::Text;
-use rows::packed::{Packed, unpack};
-use std::alloc::Global;
+use reports::marks::Marks;
+use rows::packed::{Packed, stray_bit, unpack};
+use rows::points::LARGEST_DIMENSION;
+use std::fmt;
 
-/// A packed point: its coordinates as a row of 0 and 1 where the dimension is known, else its bytes.
-pub fn point(heap: Global, bytes: &Packed, known: Option<usize>) -> Text {
-    let Some(n) = known else {
-        return format!(in heap;
-            "{} (bytes in hexadecimal, as no dimension of at most 128 is known)",
-            hex(heap, bytes)?
-        );
-    };
-    let mut row = [0; 128];
-    unpack(bytes, &mut row);
-    let mut text = marks(heap, &row, n)?;
-    let beyond = ones_from(heap, &row, n)?;
-    if !beyond.is_empty() {
-        text.push_str(", and bits beyond the dimension at")?;
-        text.push_str(beyond.as_str())?;
-    }
-    Ok(text)
+/// A packed point: it prints as its marks where the dimension is known, else as its bytes.
+#[derive(Clone, Copy)]
+pub struct Point {
+    pub bytes: Packed,
+    pub known: Option<usize>,
 }
 
-/// The first n marks, a 0 or a 1 for each.
-fn marks(heap: Global, row: &[u8], n: usize) -> Text {
-    if n == 0 {
-        return String::from_str(heap, "of no coordinates");
-    }
-    let mut text = String::new(heap);
-    for mark in row.iter().take(n) {
-        text.push(if *mark == 0 { '0' } else { '1' })?;
-    }
-    Ok(text)
-}
-
-/// The coordinates from n on whose mark is 1, each after a space.
-fn ones_from(heap: Global, row: &[u8], n: usize) -> Text {
-    let mut text = String::new(heap);
-    for i in n..row.len() {
-        if row[i] == 1 {
-            text.push_str(format!(in heap; " {i}")?.as_str())?;
+impl fmt::Display for Point {
+    fn fmt<W: fmt::Write>(&self, f: &mut fmt::Formatter<W>) -> fmt::Result {
+        match self.known {
+            Some(n) => write_marks(f, &self.bytes, n),
+            None => write!(
+                f,
+                "{:032X} (bytes in hexadecimal, as no dimension of at most 128 is known)",
+                u128::from_be_bytes(self.bytes)
+            ),
         }
     }
-    Ok(text)
 }
 
-/// Bytes, two hexadecimal digits for each.
-fn hex(heap: Global, bytes: &[u8]) -> Text {
-    let mut text = String::new(heap);
-    for byte in bytes {
-        text.push_str(format!(in heap; "{byte:02X}")?.as_str())?;
+/// Writes the marks of the first n coordinates, and which bits are set beyond them.
+fn write_marks<W: fmt::Write>(f: &mut fmt::Formatter<W>, bytes: &Packed, n: usize) -> fmt::Result {
+    let mut row = [0; LARGEST_DIMENSION];
+    unpack(bytes, &mut row);
+    if n == 0 {
+        f.write_str("of no coordinates")?;
+    } else {
+        write!(f, "{}", Marks(&row[..n.min(LARGEST_DIMENSION)]))?;
     }
-    Ok(text)
+    if stray_bit(bytes, n).is_some() {
+        f.write_str(", and bits beyond the dimension at")?;
+    }
+    for (i, mark) in row.iter().enumerate().skip(n) {
+        if *mark == 1 {
+            write!(f, " {i}")?;
+        }
+    }
+    Ok(())
 }

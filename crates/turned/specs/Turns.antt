@@ -1,10 +1,10 @@
 -- Turned sets: the members are the points that, combined with a row of marks by exclusive or, are members of a set below.
 -- n is the dimension, M says which rows are members below, s is the row of marks, x a row, ps are prices.
-use Rattle.std.specs.Prelude.{◌≡◌, ℕ, zero, suc, List, [], ◌∷◌, length, ℤ, neg_ℤ, bit_xor}
+use Rattle.std.specs.Prelude.{◌≡◌, ℕ, zero, suc, List, ℤ, neg_ℤ, bit_xor}
 use Rattle.std.specs.Simd.Lanes.{zip2}
-use Rattle.rows.specs.Points.{Marks, Point, BadMark}
-use Rattle.rows.specs.Refusals.{Check, ask, ask_at}
-use Rattle.rows.specs.declared.refusals.Fault.TheVariants.{Length, Mark}
+use Rattle.rows.specs.Points.{Point}
+use Rattle.rows.specs.Refusals.{Check}
+use Rattle.augmenter.specs.Questions.{row_checks}
 use Rattle.augmenter.specs.declared.answers.Answer.{Answer}
 use Rattle.augmenter.specs.declared.answers.Answer.TheVariants.{Found, Nothing}
 
@@ -31,4 +31,4 @@ TurnedBack s f o o' Nothing = o' ≡ o
 
 -- the checks of a making, in their order
 abbrev pub making_checks : ℕ → List ℕ → List Check
-making_checks n s = ask Length (length s ≡ n) ∷ ask_at Mark (Marks s) (BadMark s) ∷ []
+making_checks n s = row_checks n 1 s

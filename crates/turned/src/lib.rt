@@ -7,12 +7,11 @@ ghost use Rattle.std.specs.Prelude.{◌≡◌, ◌^◌, ◌<◌, length, take, M
 ghost use Rattle.rows.specs.Points.{Marks};
 ghost use Rattle.rows.specs.Prices.{weight};
 ghost use Rattle.rows.specs.Refusals.{Passes, RefusedBy};
-ghost use Rattle.augmenter.specs.Questions.{Screened};
 ghost use Rattle.turned.specs.Turns.{TurnedIn, TurnedBack, xor, turn, turned_prices, making_checks};
 ghost use Rattle.std.proofs.Common.{rules};
 
 use augmenter::answers::Answer;
-use augmenter::{Augmenter, shared_checks};
+use augmenter::{Augmenter, check_row, shared_checks};
 use rows::points::{Padded, bad_mark, padded};
 use rows::refusals::{Fault, Refusal};
 
@@ -20,21 +19,9 @@ use rows::refusals::{Fault, Refusal};
 #[derive(Drop)]
 pub struct Turned<A> {
     below: A,
+    /// a row of the dimension below, in fixed memory since nothing allocates
     marks: Padded<u8>,
     ghost bits: { Marks marks },
-}
-
-/// The checks of a making over a set of dimension `n`: length and marks, in this order.
-fn check_marks(n: usize, marks: &[u8]) -> Result<(), Refusal>
-    ensures { Screened (making_checks n marks.now) result }
-{
-    if marks.len() != n {
-        return Err(Fault::Length.at(0));
-    }
-    if let Some(place) = bad_mark(marks) {
-        return Err(Fault::Mark.at(place));
-    }
-    Ok(())
 }
 
 impl<A: Augmenter + Drop> Turned<A> {
@@ -42,7 +29,7 @@ impl<A: Augmenter + Drop> Turned<A> {
     pub fn new(below: A, marks: &[u8]) -> Result<Turned<A>, Refusal>
         ensures { MatchResult result (λ t. Passes (making_checks (A.dim below) marks.now) × (t.below ≡ below) × (take (A.dim below) t.marks ≡ marks.now)) (λ e. RefusedBy (making_checks (A.dim below) marks.now) e) }
     {
-        check_marks(below.dimension(), marks)?;
+        check_row(below.dimension(), marks, 1)?;
         Ok(Turned {
             below,
             marks: padded(marks, 0),
@@ -56,8 +43,9 @@ fn turn_row(row: &[u8], marks: &[u8], out: &mut [u8])
     requires room { length out.old ≡ length row.now }
     ensures { out.new ≡ xor row.now marks.now }
 {
-    for i in 0..row.len() {
-        out[i] = row[i] ^ marks[i];
+    // an index for the rows that are read: of an `iter_mut` that is zipped nothing is known after the loop
+    for (i, turned) in out.iter_mut().enumerate() {
+        *turned = row[i] ^ marks[i];
     }
 }
 
@@ -76,8 +64,9 @@ fn turn_prices(prices: &[i64], marks: &[u8], out: &mut [i64])
     requires light { weight prices.now < 2 ^ 40 }
     ensures { out.new ≡ turned_prices prices.now marks.now }
 {
-    for i in 0..prices.len() {
-        out[i] = turn_price(prices[i], marks[i]);
+    // an index for the rows that are read: of an `iter_mut` that is zipped nothing is known after the loop
+    for (i, turned) in out.iter_mut().enumerate() {
+        *turned = turn_price(prices[i], marks[i]);
     }
 }
 
@@ -128,6 +117,7 @@ impl<A: Augmenter> Augmenter for Turned<A> {
 
     ghost member_is_point = { Prim.search rules };
 
+    // As the set below, like the next two: a default body in the trait could not be proved, where constants are opaque.
     fn letter() -> u8 {
         A::letter()
     }

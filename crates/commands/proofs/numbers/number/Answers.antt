@@ -1,20 +1,33 @@
-use Rattle.std.proofs.Common.{◌≡◌, ℕ, ◌-◌, ◌*◌, ◌≤◌, List, length, take, drop, ap, ◌∙◌, arith, length-drop, pow_mono}
-use Rattle.std.proofs.lemmas.List.{take_rest}
-use Rattle.std.specs.Int.Digits.{number_from_digits}
+use Rattle.std.proofs.Common.{◌≡◌, ℕ, ◌+◌, ◌*◌, ◌^◌, ◌<◌, ◌≤◌, length, ap, ◌∙◌, arith, pow_mono}
+use Rattle.std.proofs.lemmas.Nat.{pow-add}
+use Rattle.std.proofs.lemmas.Int.Digits.{number_more}
 use Rattle.commands.proofs.numbers.number.Goals as goal
 
--- the last eight bytes
-last-eight : (bs : List ℕ) (k : ℕ) → k ≡ length bs - 8 → take (length bs - k) (drop k bs) ≡ drop (length bs - 8) bs
-last-eight bs k e = take_rest bs k ∙ ap (λ (m : ℕ). drop m bs) e
+wide : (n i : ℕ) → n < 2 ^ (8 * i) → i < 8 → n < 2 ^ 56
+wide n i h k = let q : 8 * i ≤ 56 = omega arith in omega (arith, pow_mono q)
 
-all : (bs : List ℕ) → length bs ≤ 8 → drop (length bs - 8) bs ≡ bs
-all bs h = let z : length bs - 8 ≡ 0 = omega arith in ap (λ (m : ℕ). drop m bs) z
+longer : (n i b : ℕ) → n < 2 ^ (8 * i) → b < 256 → n * 256 + b < 2 ^ (8 * (i + 1))
+longer n i b h k =
+    let e : 8 * (i + 1) ≡ 8 * i + 8 = omega arith in
+    let p : 2 ^ (8 * (i + 1)) ≡ 2 ^ (8 * i) * 256 = ap (λ (m : ℕ). 2 ^ m) e ∙ pow-add 2 (8 * i) 8 in
+    omega arith
 
-pub returns : goal.returns
-returns c =
-    let bs = c.args.bytes.now in
-    let e = last-eight bs _ c.saturating_sub.ensures in
-    let v = c.short_number.ensures.value ∙ ap (number_from_digits 256) e in
-    let n : length (take (length bs - c.saturating_sub.result) (drop c.saturating_sub.result bs)) ≤ length bs = omega (arith, ap length e, length-drop (length bs - 8) bs) in
-    let m : 8 * length (take (length bs - c.saturating_sub.result) (drop c.saturating_sub.result bs)) ≤ 8 * length bs = omega arith in
-    record { value = v; short = λ h. v ∙ ap (number_from_digits 256) (all bs h); small = omega (arith, c.short_number.ensures.small, pow_mono m) }
+pub overflow_mul-n : goal.overflow_mul-n
+overflow_mul-n c =
+    let h = wide c.loop-byte.n c.loop-byte.byte-index c.loop-byte.invariant.1 (omega arith) in
+    omega arith
+
+pub overflow_add-n : goal.overflow_add-n
+overflow_add-n c =
+    let h = wide c.loop-byte.n c.loop-byte.byte-index c.loop-byte.invariant.1 (omega arith) in
+    omega arith
+
+pub loop-byte-preserved : goal.loop-byte-preserved
+loop-byte-preserved c =
+    let m = number_more 256 _ c.loop-byte.byte-index c.loop-byte-test.true in
+    (omega arith, longer c.loop-byte.n c.loop-byte.byte-index _ c.loop-byte.invariant.1 (omega arith))
+
+pub returns-clause-small : goal.returns-clause-small
+returns-clause-small c =
+    let m : 8 * c.loop-byte.byte-index ≤ 8 * length c.args.bytes.now = omega arith in
+    omega (arith, c.loop-byte.invariant.1, pow_mono m)

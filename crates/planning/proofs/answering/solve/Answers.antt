@@ -1,7 +1,8 @@
-use Rattle.std.proofs.Common.{◌≡◌, ℕ, ◌-◌, length, replicate, ap, ◌∙◌, rules}
-use borrow.Rule.Slice.PartMut.{mid_of}
+use Rattle.std.proofs.Common.{◌≡◌, ℕ, length, replicate, ap, ◌∙◌, subst, take, rules}
 use Rattle.rows.specs.Packed.{unpacked}
-use Rattle.planning.specs.Answers.{prices_in, rows_in}
+use Rattle.rows.specs.Refusals.{Passes}
+use Rattle.listed.specs.Lists.{making_checks}
+use Rattle.planning.specs.Answers.{prices_in}
 use Rattle.planning.proofs.Solving.{solves}
 use Rattle.planning.proofs.answering.solve.Goals as goal
 
@@ -10,8 +11,9 @@ returns c =
     let p = c.args.problem.now in
     let l : length p.prices ≡ 128 = search rules in
     let m = c.in_ok-listed.ensures in
-    let rows : mid_of 0 (p.count - 0) p.rows ≡ rows_in p = search rules in
-    let prices : mid_of 0 (p.dimension - 0) p.prices ≡ prices_in p = search rules in
-    let n : length (mid_of 0 (p.dimension - 0) (replicate 128 0)) ≡ p.dimension = search rules in
+    let e = c.from-n.ensures in
+    let made = subst (λ (n : ℕ). Passes (making_checks n p.reach c.as_slice.result.now)) e m.0 in
+    let prices : take c.from-n.result p.prices ≡ prices_in p = search (rules, e) in
+    let n : length (take c.from-n.result (replicate {A = ℕ} 128 0)) ≡ p.dimension = search (rules, e) in
     let start = c.unpack.ensures.is ∙ ap (λ (k : ℕ). unpacked k p.start) n in
-    solves p l _ _ _ _ _ _ c.plan.result m.1 m.2 m.3 rows start prices m.0 c.plan.ensures
+    solves p l _ _ _ _ _ _ c.plan.result (m.1 ∙ e) m.2 m.3 c.as_slice.ensures start prices made c.plan.ensures

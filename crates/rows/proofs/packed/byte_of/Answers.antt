@@ -1,9 +1,6 @@
-use Rattle.std.proofs.Common.{◌≡◌, ℕ, sym, ap, ◌∙◌, arith}
-use Rattle.rows.proofs.Packing.{from_digit, from_none, from_small, from_more, digit_small}
+use Rattle.std.proofs.Common.{arith}
+use Rattle.rows.proofs.Packing.{from_small, from_more, digit_small}
 use Rattle.rows.proofs.packed.byte_of.Goals as goal
-
-pub loop-j-init : goal.loop-j-init
-loop-j-init c = sym (from_none c.args.row.now c.args.byte)
 
 pub overflow_mul-sum : goal.overflow_mul-sum
 overflow_mul-sum c = omega (arith, c.loop-j.invariant, from_small c.args.row.now c.args.byte c.loop-j.j c.loop-j-test.true)
@@ -15,8 +12,3 @@ overflow_add-sum c =
 pub loop-j-preserved : goal.loop-j-preserved
 loop-j-preserved c =
     from_more c.args.row.now c.args.byte c.loop-j.j c.loop-j.sum _ _ (omega arith) (omega arith) c.loop-j.invariant c.mark_at.ensures c.digit.ensures
-
-pub returns : goal.returns
-returns c =
-    let e : c.loop-j.j ≡ 0 = omega arith in
-    c.loop-j.invariant ∙ ap (λ (z : ℕ). from_digit c.args.row.now c.args.byte z) e

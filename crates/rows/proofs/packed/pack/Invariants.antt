@@ -3,4 +3,4 @@ use Rattle.rows.specs.Packed.{byte_of}
 use Rattle.rows.proofs.packed.pack.Given as goal
 
 abbrev pub invariant-loop-b : goal.invariant-loop-b
-invariant-loop-b l = (length l.bytes ≡ 16) × ((k : ℕ) → k < l.b → get_or l.bytes k 0 ≡ byte_of l.row k)
+invariant-loop-b l = (length l.byte-items ≡ 16) × ((k : ℕ) → k < l.b → get_or l.byte-items k 0 ≡ byte_of l.row k)

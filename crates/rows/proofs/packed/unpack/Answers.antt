@@ -1,12 +1,8 @@
 use Rattle.std.proofs.Common.{◌≡◌, length, ap, ◌∙◌, arith, rules}
 use Rattle.std.proofs.lemmas.List.FromFn.{fill_by_all}
 use Rattle.rows.specs.Packed.{bit_at, unpacked, packed}
-use Rattle.rows.proofs.Packing.{filled_more, packed_unpacked}
+use Rattle.rows.proofs.Packing.{packed_unpacked}
 use Rattle.rows.proofs.packed.unpack.Goals as goal
-
-pub loop-i-preserved : goal.loop-i-preserved
-loop-i-preserved c =
-    filled_more (bit_at c.args.bytes.now) c.loop-i.row c.loop-i.i c.bit_at.result (omega arith) c.bit_at.ensures c.loop-i.invariant
 
 pub returns : goal.returns
 returns c =

@@ -1,11 +1,8 @@
-use Rattle.std.proofs.Common.{ℕ, ◌%◌, ◌^◌, get_or, ℤ, pos, nat_abs, ap, ◌∙◌, arith, take_all, w64, SFits, rules}
+use Rattle.std.proofs.Common.{ℕ, ◌%◌, ◌^◌, get_or, ℤ, pos, nat_abs, ap, ◌∙◌, arith, w64, SFits, rules}
 use lib.Count.{ones, ones-le}
 use Rattle.std.proofs.lemmas.List.Sums.{sum_by_more}
 use Rattle.std.proofs.lemmas.Int.{to_z-of_z}
 use Rattle.rows.proofs.prices.ones_below.Goals as goal
-
-pub overflow_add-low : goal.overflow_add-low
-overflow_add-low c = search (rules, ones-le 64 c.remainder.result)
 
 pub loop-p-preserved : goal.loop-p-preserved
 loop-p-preserved c =
@@ -14,6 +11,3 @@ loop-p-preserved c =
     let size = simp to_z-of_z at c.unsigned_abs.ensures.value in
     let part = ap (λ (z : ℕ). ones z) (c.remainder.ensures ∙ ap (λ (z : ℕ). z % 2 ^ c.args.plane) size) in
     (omega arith, search (rules, ones-le 64 c.remainder.result))
-
-pub returns : goal.returns
-returns c = record { is = grind (arith, take_all); few = search rules }

@@ -6,7 +6,7 @@ use Rattle.runs.proofs.finishing.finish.Given as goal
 abbrev pub invariant-loop : goal.invariant-loop
 invariant-loop g l =
     (l.job.below ≡ l.initial.job.below) ×
-    (SoundJob g.A.Augmenter.dim g.A.Augmenter.reaches g.A.Augmenter.Member l.initial.job →
-    Going (g.A.Augmenter.dim l.initial.job.below) (g.A.Augmenter.reaches l.initial.job.below) (g.A.Augmenter.Member l.initial.job.below) (view g.A.Augmenter.dim l.initial.job) (view g.A.Augmenter.dim l.job) l.counter) ×
+    (SoundJob l.initial.job →
+    Going (g.A.Augmenter.dim l.initial.job.below) (g.A.Augmenter.reaches l.initial.job.below) (g.A.Augmenter.Member l.initial.job.below) (view l.initial.job) (view l.job) l.counter) ×
     (l.job.number ≡ l.initial.job.number) ×
     (l.job.ticketing ≡ l.initial.job.ticketing)

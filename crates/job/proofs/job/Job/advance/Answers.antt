@@ -10,5 +10,5 @@ returns-in-Open g c =
     record {
       below = c.ask.ensures.below;
       moves = c.ask.ensures.moves;
-      keeps = advance_keeps (A.dim a) (A.reaches a) (A.Member a) (L.dim_fits a) (L.reach_fits a) (L.member_is_point a) (view A.dim c.args.self.now) _ _ c.ask.ensures.moves;
+      keeps = advance_keeps (A.dim a) (A.reaches a) (A.Member a) (L.dim_fits a) (L.reach_fits a) (L.member_is_point a) (view c.args.self.now) _ _ c.ask.ensures.moves;
     }

@@ -10,5 +10,5 @@ returns g c =
     record {
       below = c.start.ensures.below;
       moves = c.start.ensures.moves;
-      keeps = begin_keeps (A.dim a) (A.reaches a) (A.Member a) (L.dim_fits a) (L.reach_fits a) (L.member_is_point a) (view A.dim c.args.self.now) _ _ _ _ c.start.ensures.moves;
+      keeps = begin_keeps (A.dim a) (A.reaches a) (A.Member a) (L.dim_fits a) (L.reach_fits a) (L.member_is_point a) (view c.args.self.now) _ _ _ _ c.start.ensures.moves;
     }

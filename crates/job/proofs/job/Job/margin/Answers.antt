@@ -11,7 +11,7 @@ pub returns-in-Open : goal.returns-in-Open
 returns-in-Open g c =
     let A = g.A.Augmenter in
     let a = c.args.self.now.below in
-    let v = view A.dim c.args.self.now in
+    let v = view c.args.self.now in
     let is : c.open_margin.result ≡ margin_at v.prices v.state =
     c.open_margin.ensures ∙ ap (λ (ps : List ℤ). margin_at ps (Open c.in-Open.plane c.in-Open.improved)) c.prices.ensures ∙
     ap (λ (s : State). margin_at v.prices s) (sym c.in-Open.is) in

@@ -6,11 +6,5 @@ pub returns : goal.returns
 returns c =
     record {
       stage = refl;
-      named = refl;
-      reached = inl (tt, refl);
-      room = refl;
-      wide = refl;
-      listed = refl;
-      prices = λ i k. inl (tt, get_or-replicate 128 i (pos 0) (pos 0) k);
-      started = inl (tt, refl);
+      means = record { dimension = refl; reach = inl (tt, refl); listed = c.new.ensures; prices = λ i k. inl (tt, get_or-replicate 128 i (pos 0) (pos 0) k); start = inl (tt, refl) };
     }

@@ -1,0 +1,23 @@
+use Rattle.std.proofs.Common.{arith}
+use Rattle.script.proofs.Taking.{dimension_kept, listed_kept, prices_kept, reach_new, reach_passes, reach_refused, start_kept}
+use Rattle.script.proofs.problem.Problem.add_reach.Goals as goal
+
+pub returns-then-reach : goal.returns-then-reach
+returns-then-reach c cs m g a =
+    let v = c.number-reach.ensures.short (omega arith) in
+    reach_refused cs c.args.operand.now a g (omega arith)
+
+pub returns : goal.returns
+returns c cs m g a =
+    let p = c.args.self.now in
+    let o = c.args.operand.now in
+    let v = c.number-reach.ensures.short (omega arith) in (
+      reach_passes cs o a g (omega arith),
+      record {
+        dimension = dimension_kept cs (76, o) p m g (λ e. omega arith);
+        reach = reach_new cs o _ v;
+        listed = listed_kept cs (76, o) p m g (λ e. omega arith);
+        prices = prices_kept cs (76, o) p m g (λ e. omega arith) (λ e. omega arith);
+        start = start_kept cs (76, o) p m g (λ e. omega arith);
+      },
+    )
