@@ -19,17 +19,13 @@ pub trait Augmenter {
     /// The kind letter of the make. A byte and no enum: a make elsewhere has a letter of its own.
     const KIND: u8;
 
-    ghost kind: { ℕ };
+    ghost KIND: { ℕ };
 
     ghost dim: { Self → ℕ };
 
     ghost reaches: { Self → ℕ };
 
     ghost Member: { Self → List ℕ → Type 0 };
-
-    /// The kind letter, in a form that a contract can speak of.
-    fn letter() -> u8
-        ensures { result ≡ kind };
 
     fn dimension(&self) -> usize
         ensures { result ≡ dim self.now };

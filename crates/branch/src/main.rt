@@ -8,6 +8,7 @@ use job::job::Job;
 use job::parts::State;
 use layouts::{LAYOUTS, PARTS, START};
 use listed::Listed;
+use reports::ending::report;
 use reports::failures::Failure;
 use reports::marks::Marks;
 use rows::packed::pack;
@@ -19,11 +20,7 @@ use std::io;
 const REACH: u64 = 1_000_000;
 
 fn main(rt: HostRuntime) -> io::Result<()> {
-    match plan_branch(&rt) {
-        Ok(()) => Ok(()),
-        Err(Failure::Refused(refusal)) => println!(rt; "{refusal}"),
-        Err(Failure::Io(error)) => Err(error),
-    }
+    report(&rt, plan_branch(&rt))
 }
 
 /// Plans the branch at its prices, and then at those of a new contract.
@@ -72,6 +69,7 @@ fn plan<A: Augmenter>(rt: &HostRuntime, job: &mut Job<A>, prices: &[i64]) -> Res
         planes(prices)
     )?;
     println!(rt; "plane  answer   point      margin")?;
+    // by the bound, since a job's end is said of sound jobs and is no measure of a `while let`
     for _ in 0..bound {
         let State::Open { plane, .. } = job.state() else {
             break;

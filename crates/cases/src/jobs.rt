@@ -1,4 +1,4 @@
-use crate::refused;
+use crate::{pair, refused};
 use job::job::Job;
 use job::parts::{Line, State, Step, Totals};
 use listed::Listed;
@@ -6,8 +6,8 @@ use rows::packed::pack;
 use rows::refusals::Refusal;
 use std::test::Fail;
 
-fn pair() -> Result<Job<Listed>, Refusal> {
-    Ok(Job::new(Listed::new(2, 8, &[pack(&[1, 0]), pack(&[0, 1])])?, 7))
+fn job_of_pair() -> Result<Job<Listed>, Refusal> {
+    Ok(Job::new(pair()?, 7))
 }
 
 /// What an advance answered, and the margin after it.
@@ -17,7 +17,7 @@ fn advanced(job: &mut Job<Listed>) -> Result<(Step, u128), Refusal> {
 
 #[test]
 fn five_and_minus_three(rt: HostRuntime) -> Result<(), Fail> {
-    let mut job = pair()?;
+    let mut job = job_of_pair()?;
     job.begin(&[1, 0], &[5, -3])?;
     assert_eq!(rt; (job.margin(), job.questions_left()), (8, 7));
     assert_eq!(rt;
@@ -68,7 +68,7 @@ fn one_against_three(rt: HostRuntime) -> Result<(), Fail> {
 
 #[test]
 fn refusals(rt: HostRuntime) -> Result<(), Fail> {
-    let mut job = pair()?;
+    let mut job = job_of_pair()?;
     assert_eq!(rt; refused(job.advance()), Some((12, 0)));
     assert_eq!(rt; refused(job.begin(&[1], &[5, -4])), Some((1, 0)));
     assert_eq!(rt; refused(job.begin(&[0, 2], &[5, -4])), Some((2, 1)));
@@ -83,7 +83,7 @@ fn refusals(rt: HostRuntime) -> Result<(), Fail> {
 
 #[test]
 fn ledger(rt: HostRuntime) -> Result<(), Fail> {
-    let mut job = pair()?;
+    let mut job = job_of_pair()?;
     job.begin(&[1, 0], &[5, -3])?;
     for _ in 0..5 {
         job.advance()?;
@@ -98,7 +98,7 @@ fn ledger(rt: HostRuntime) -> Result<(), Fail> {
 
 #[test]
 fn no_plane(rt: HostRuntime) -> Result<(), Fail> {
-    let mut job = pair()?;
+    let mut job = job_of_pair()?;
     assert_eq!(rt; job.point(), [0, 0].as_slice());
     job.begin(&[1, 0], &[0, 0])?;
     assert_eq!(rt; job.state(), State::Finished);

@@ -1,13 +1,8 @@
-use crate::refused;
+use crate::{pair, refused, two};
 use augmenter::Augmenter;
 use augmenter::answers::Answer;
 use listed::Listed;
-use rows::packed::{Packed, pack};
 use std::test::Fail;
-
-fn two() -> [Packed; 2] {
-    [pack(&[1, 0]), pack(&[0, 1])]
-}
 
 #[test]
 fn makings_refused(rt: HostRuntime) {
@@ -24,7 +19,7 @@ fn makings_refused(rt: HostRuntime) {
 
 #[test]
 fn questions_refused(rt: HostRuntime) -> Result<(), Fail> {
-    let set = Listed::new(2, 8, &two())?;
+    let set = pair()?;
     let mut out = [9, 9];
     assert_eq!(rt; refused(set.better(&[5], &[2, 0], &mut out)), Some((1, 0)));
     assert_eq!(rt;
@@ -49,26 +44,19 @@ fn questions_refused(rt: HostRuntime) -> Result<(), Fail> {
 
 #[test]
 fn answers(rt: HostRuntime) -> Result<(), Fail> {
-    let set = Listed::new(2, 8, &two())?;
+    let set = pair()?;
     let mut out = [9, 9];
     assert_eq!(rt; set.better(&[5, -3], &[0, 1], &mut out)?, Answer::Nothing);
     assert_eq!(rt; out, [9, 9]);
     assert_eq!(rt; set.better(&[5, -3], &[1, 0], &mut out)?, Answer::Found);
     assert_eq!(rt; out, [0, 1]);
-    assert_eq!(rt;
-        (
-            set.dimension(),
-            set.reach(),
-            <Listed as Augmenter>::letter()
-        ),
-        (2, 8, b'L')
-    );
+    assert_eq!(rt; (set.dimension(), set.reach(), Listed::KIND), (2, 8, b'L'));
     Ok(())
 }
 
 #[test]
 fn members(rt: HostRuntime) -> Result<(), Fail> {
-    let set = Listed::new(2, 8, &two())?;
+    let set = pair()?;
     assert!(rt; set.belongs(&[1, 0]));
     assert!(rt; set.belongs(&[0, 1]));
     assert!(rt; !set.belongs(&[1, 1]));

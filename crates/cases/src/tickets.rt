@@ -1,18 +1,13 @@
-use crate::refused;
+use crate::{pair, refused};
 use job::job::Job;
 use job::parts::{State, Step};
 use job::tries::{Call, Outcome};
 use listed::Listed;
-use rows::packed::pack;
 use rows::refusals::{Fault, Refusal};
 use runs::finishing::finish;
 use runs::planning::plan;
 use runs::try_calls;
 use std::test::Fail;
-
-fn pair() -> Result<Listed, Refusal> {
-    Listed::new(2, 8, &[pack(&[1, 0]), pack(&[0, 1])])
-}
 
 fn finished() -> Result<Job<Listed>, Refusal> {
     let mut job = Job::new(pair()?, 1);
@@ -41,7 +36,7 @@ fn plan_of_the_pair(rt: HostRuntime) -> Result<(), Fail> {
 #[test]
 fn tickets_refused(rt: HostRuntime) -> Result<(), Fail> {
     let mut job = finished()?;
-    let mut plan = [0u8; 46];
+    let mut plan = [0; plans::LENGTH];
     assert_eq!(rt; refused(job.write_plan(&mut plan[0..45])), Some((17, 0)));
     assert_eq!(rt; plan[0], 0);
     assert_eq!(rt; refused(job.write_plan(&mut plan)), None);
@@ -86,7 +81,9 @@ fn a_thousand_rows(rt: HostRuntime) -> Result<(), Fail> {
 }
 
 /// Calls, and what should come of each, with the plan that is written. Stale, foreign and invented tickets are among them.
-fn calls_with_outcomes(plan: [u8; 46]) -> [(Call<'static>, Result<Outcome, Refusal>); 14] {
+fn calls_with_outcomes(
+    plan: [u8; plans::LENGTH],
+) -> [(Call<'static>, Result<Outcome, Refusal>); 14] {
     let begin = Call::Begin {
         start: &[1, 0],
         prices: &[1, 0],

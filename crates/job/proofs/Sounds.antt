@@ -27,6 +27,12 @@ use Rattle.job.specs.Soundness.{Standing, Spent, Sound, left, BeginKeeps, Advanc
 clash : {P : Type 0} {s : State} {k j : ℕ} → s ≡ Open k j → s ≡ Finished → P
 clash e f = let z : ◌≡◌ {A = ℕ} 0 1 = cc in absurd (omega arith)
 
+-- the point of a begun job is a member
+begun_member : (R : ℕ) (M : List ℕ → Type 0) (ps : List ℤ) (x : List ℕ) (s : State) → Standing R M ps x s → IsBegun s → M x
+begun_member R M ps x NotBegun s b = absurd b
+begun_member R M ps x (Open k j) s b = s.0
+begun_member R M ps x Finished s b = s.0
+
 -- a job just made
 pub blank_sound : (m n R : ℕ) (M : List ℕ → Type 0) → Sound n R M (blank m n)
 blank_sound m n R M = record {
@@ -226,16 +232,11 @@ module _ (n R : ℕ) (M : List ℕ → Type 0) (small : n ≤ 128) (low : R < 2 
       record { sound = k.0; refused = k.1; falls = k.2 }
 
   -- a row taken by reprice
-  begun_member : (ps : List ℤ) (x : List ℕ) (s : State) → Standing R M ps x s → IsBegun s → M x
-  begun_member ps x NotBegun s b = absurd b
-  begun_member ps x (Open k j) s b = s.0
-  begun_member ps x Finished s b = s.0
-
   pub reprice_sound : (a b : View) (ps : List ℤ) (r : Result (Unit {0}) Refusal) → Repriced n R a ps r b → Sound n R M a → Sound n R M b
   reprice_sound a b ps (Ok u) g w =
       let p = g.0 in
       subst (Sound n R M) (sym g.1)
-      (accepted_sound a a.point ps w p.1.0 (begun_member a.prices a.point a.state w.stands p.0) p.1.1.0 p.1.1.1.0).0
+      (accepted_sound a a.point ps w p.1.0 (begun_member R M a.prices a.point a.state w.stands p.0) p.1.1.0 p.1.1.1.0).0
   reprice_sound a b ps (Err e) g w = subst (Sound n R M) (sym g.1) w
 
 -- the calls on tickets
@@ -289,13 +290,8 @@ module _ (n R : ℕ) (M : List ℕ → Type 0) where
 
 -- what soundness gives: the point is a member, and no member is cheaper by more than the margin
 module _ (n R : ℕ) (M : List ℕ → Type 0) (v : View) (w : Sound n R M v) where
-  member_at : (ps : List ℤ) (x : List ℕ) (s : State) → Standing R M ps x s → IsBegun s → M x
-  member_at ps x NotBegun s b = absurd b
-  member_at ps x (Open k j) s b = s.0
-  member_at ps x Finished s b = s.0
-
   pub member : IsBegun v.state → M v.point
-  member b = member_at v.prices v.point v.state w.stands b
+  member b = begun_member R M v.prices v.point v.state w.stands b
 
   near_at : (ps : List ℤ) (x : List ℕ) (s : State) → Standing R M ps x s → IsBegun s → (y : List ℕ) → M y → price ps x ≤ℤ (price ps y +ℤ pos (margin_at ps s))
   near_at ps x NotBegun s b y my = absurd b

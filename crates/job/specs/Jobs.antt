@@ -52,24 +52,24 @@ IssuedBy a e b = Issued (view a) e (view b)
 
 -- m and k are the numbers of the ticket, u and u' the buffer before the call and after it
 abbrev pub WroteBy : {X : Type 0} {G : Ghosts X} → Job X G → ℕ → ℕ → List ℕ → Result (Unit {0}) (Ticket × Refusal) → Job X G → List ℕ → Type 0
-WroteBy {X} {G} a m k u e b u' = Wrote G.kind (G.dim a.below) (view a) m k u e (view b) u'
+WroteBy {X} {G} a m k u e b u' = Wrote G.KIND (G.dim a.below) (view a) m k u e (view b) u'
 
 abbrev pub WithdrewBy : {X : Type 0} {G : Ghosts X} → Job X G → ℕ → ℕ → Job X G → Type 0
 WithdrewBy a m k b = Withdrew (view a) m k (view b)
 
 abbrev pub WrotePlanBy : {X : Type 0} {G : Ghosts X} → Job X G → List ℕ → Result (Unit {0}) Refusal → Job X G → List ℕ → Type 0
-WrotePlanBy {X} {G} a u e b u' = WrotePlan G.kind (G.dim a.below) (view a) u e (view b) u'
+WrotePlanBy {X} {G} a u e b u' = WrotePlan G.KIND (G.dim a.below) (view a) u e (view b) u'
 
 -- the plan of a job, and whether a ticket of the numbers m and k is the one that it has out
 abbrev pub plan_by : {X : Type 0} {G : Ghosts X} → Job X G → Plan
-plan_by {X} {G} a = plan_of G.kind (G.dim a.below) (view a)
+plan_by {X} {G} a = plan_of G.KIND (G.dim a.below) (view a)
 
 abbrev pub ValidBy : {X : Type 0} {G : Ghosts X} → Job X G → ℕ → ℕ → Type 0
 ValidBy a m k = Valid (view a) m k
 
 -- a write by those numbers into a buffer of the length room, and a call c
 abbrev pub TriedWriteBy : {X : Type 0} {G : Ghosts X} → Job X G → ℕ → ℕ → ℕ → Result (List ℕ) Refusal → Job X G → Type 0
-TriedWriteBy {X} {G} a m k room e b = TriedWrite G.kind (G.dim a.below) (view a) m k room e (view b)
+TriedWriteBy {X} {G} a m k room e b = TriedWrite G.KIND (G.dim a.below) (view a) m k room e (view b)
 
 abbrev pub TriedBy : {X : Type 0} {G : Ghosts X} → Job X G → Call → Result Outcome Refusal → Job X G → Type 0
-TriedBy {X} {G} a c o b = TriedCall G.kind (G.dim a.below) (G.reaches a.below) (G.Member a.below) (view a) c o (view b)
+TriedBy {X} {G} a c o b = TriedCall G.KIND (G.dim a.below) (G.reaches a.below) (G.Member a.below) (view a) c o (view b)

@@ -9,7 +9,7 @@ use crate::job::Job;
 use crate::parts::{Ledger, Line, State, Step, Ticketing, Totals};
 use augmenter::answers::Answer;
 use augmenter::{Augmenter, shared_checks};
-use rows::points::{Padded, padded};
+use rows::points::{LARGEST_DIMENSION, Padded, padded};
 use rows::prices::{planes, row_at_plane, weight};
 use rows::refusals::{Fault, Refusal};
 
@@ -24,7 +24,7 @@ fn put<A: Augmenter>(
 {
     let n = below.dimension();
     let row = row_at_plane(prices, plane);
-    let mut next = [0u8; 128];
+    let mut next = [0u8; LARGEST_DIMENSION];
     match below.better(&row[..n], &point[..n], &mut next[..n])? {
         Answer::Found => Ok(Some(next)),
         Answer::Nothing => Ok(None),
@@ -35,7 +35,7 @@ fn put<A: Augmenter>(
 fn zeros<T: Copy>(zero: T) -> Padded<T>
     ensures { (n : ℕ) → n ≤ 128 → take n result ≡ replicate n zero }
 {
-    [zero; 128]
+    [zero; LARGEST_DIMENSION]
 }
 
 /// A ledger with nothing on its lines.
@@ -194,6 +194,7 @@ impl<A: Augmenter> Job<A> {
     {
         let answer = put(&self.below, &self.prices, &self.point, at)?;
         self.totals.asked = self.totals.asked.saturating_add(1);
+        // state and answer in one match, so that each case says all that it changes in place
         match (self.state, answer) {
             (State::Open { plane, improved }, Some(next)) => {
                 self.point = next;

@@ -6,6 +6,8 @@ use augmenter::Augmenter;
 use rows::points::Padded;
 
 /// A job over an augmenter.
+///
+/// That it is sound stands in clauses and is no ghost field: tried, but a field's fact must be a proposition, which membership of a set need not be.
 #[derive(Drop)]
 pub struct Job<A: Augmenter> {
     pub(crate) below: A,

@@ -36,7 +36,7 @@ impl<A: Augmenter> Job<A> {
         ensures { result ≡ plan_by self.now }
     {
         Plan {
-            kind: A::letter(),
+            kind: A::KIND,
             dimension: self.below.dimension() as u8,
             number: self.number,
             point: pack(self.point()),
@@ -64,6 +64,7 @@ impl<A: Augmenter> Job<A> {
         if !self.has_out(ticket.number, ticket.row) {
             return Err((ticket, Fault::WrongTicket.at(0)));
         }
+        // the ticket goes back with the refusal, or is used up: a case each
         match self.plan().write(buffer) {
             Ok(()) => {
                 let Ticket { number: _, row: _ } = ticket;
@@ -91,6 +92,7 @@ impl<A: Augmenter> Job<A> {
         ensures moves { WrotePlanBy self.old buffer.old result self.new buffer.new }
     {
         let ticket = self.issue()?;
+        // no `map_err`: tried, and after it nothing is known of the job that its closure changes
         match self.write(ticket, buffer) {
             Ok(()) => Ok(()),
             Err((back, refusal)) => {

@@ -4,6 +4,7 @@ ghost use Rattle.job.specs.Jobs.{TriedBy, TriedWriteBy};
 use crate::job::Job;
 use crate::parts::{Step, Ticket};
 use augmenter::Augmenter;
+use plans::LENGTH;
 use rows::refusals::Refusal;
 
 /// A call to be tried on a job. A ticket cannot stand in a list of calls, so a pair of numbers stands for it: that of a real, a stale, a
@@ -27,18 +28,19 @@ pub enum Outcome {
     Advanced(Step),
     Issued { number: u32, row: u32 },
     /// the plan, as it was written
-    Written([u8; 46]),
+    Written([u8; LENGTH]),
     Withdrawn,
 }
 
 impl<A: Augmenter> Job<A> {
     /// Writes with the ticket of a pair into a buffer of `room` bytes, of which a plan takes 46.
-    fn try_write(&mut self, number: u32, row: u32, room: usize) -> Result<[u8; 46], Refusal>
+    fn try_write(&mut self, number: u32, row: u32, room: usize) -> Result<[u8; LENGTH], Refusal>
         ensures below { self.new.below ≡ self.old.below }
         ensures moves { TriedWriteBy self.old number row room result self.new }
     {
-        let mut bytes = [0u8; 46];
-        match self.write(Ticket { number, row }, &mut bytes[0..room.min(46)]) {
+        let mut bytes = [0u8; LENGTH];
+        // the ticket that comes back is let go, as it is one of the list's numbers: a case each
+        match self.write(Ticket { number, row }, &mut bytes[0..room.min(LENGTH)]) {
             Ok(()) => Ok(bytes),
             Err((ticket, e)) => {
                 let Ticket { number: _, row: _ } = ticket;

@@ -7,16 +7,17 @@ use Rattle.rows.proofs.Packing.{unpacked_packed, unpacked_point}
 use Rattle.augmenter.specs.Questions.{Cheapest, Cheaper}
 use Rattle.listed.specs.Lists.{ListedIn, ClearRows}
 
--- row k unpacked over a row of m bytes is a member, cheaper than x where the row costs less than the limit
-pub row_cheaper : (n m : ℕ) (rows : List (List ℕ)) (ps : List ℤ) (x y : List ℕ) (k : ℕ) (L : ℤ) → m ≡ n → L ≡ price ps x → k < length rows →
-    y ≡ unpacked m (get_or rows k []) → ClearRows n rows → (ClearFrom m (get_or rows k []) → packed y ≡ get_or rows k []) →
-    price ps (unpacked n (get_or rows k [])) <ℤ L → Cheaper (ListedIn n rows) ps x y
-row_cheaper n m rows ps x y k L em el h e c p l =
-    let f : y ≡ unpacked n (get_or rows k []) = e ∙ ap (λ (z : ℕ). unpacked z (get_or rows k [])) em in
+-- row k, which is r, unpacked over a row of m bytes is a member, cheaper than x where the row costs less than the limit
+pub row_cheaper : (n m : ℕ) (rows : List (List ℕ)) (ps : List ℤ) (x y r : List ℕ) (k : ℕ) (L : ℤ) → m ≡ n → L ≡ price ps x → k < length rows → r ≡ get_or rows k [] →
+    y ≡ unpacked m r → ClearRows n rows → (ClearFrom m r → packed y ≡ r) → price ps (unpacked n r) <ℤ L → Cheaper (ListedIn n rows) ps x y
+row_cheaper n m rows ps x y r k L em el h er e c p l =
+    let f : y ≡ unpacked n r = e ∙ ap (λ (z : ℕ). unpacked z r) em in
+    let C : List ℕ → Type 0 = λ z. ClearFrom n z in
     let P : List ℕ → Type 0 = λ z. Point n z in
     let Q : List ℕ → Type 0 = λ z. price ps z <ℤ price ps x in
-    let R : ℤ → Type 0 = λ z. price ps (unpacked n (get_or rows k [])) <ℤ z in
-    ((subst P (sym f) (unpacked_point n (get_or rows k [])), (k, h, sym (p (λ i g. c k h i (omega arith))))), subst Q (sym f) (subst R el l))
+    let R : ℤ → Type 0 = λ z. price ps (unpacked n r) <ℤ z in
+    let clear : ClearFrom n r = subst C (sym er) (c k h) in
+    ((subst P (sym f) (unpacked_point n r), (k, h, sym er ∙ sym (p (λ i g. clear i (omega arith))))), subst Q (sym f) (subst R el l))
 
 -- a member is a row unpacked
 member_row : (n : ℕ) (rows : List (List ℕ)) (y : List ℕ) → n ≤ 128 → (m : ListedIn n rows y) → unpacked n (get_or rows m.1.0 []) ≡ y

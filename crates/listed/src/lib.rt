@@ -13,7 +13,7 @@ use augmenter::answers::Answer;
 use augmenter::{Augmenter, shared_checks};
 use rows::packed::{Packed, pack, stray_bit, unpack};
 use rows::packed_rows::PackedRows;
-use rows::points::bad_mark;
+use rows::points::{LARGEST_DIMENSION, is_point};
 use rows::prices::price;
 use rows::refusals::{Fault, Refusal};
 
@@ -43,7 +43,7 @@ impl Listed {
     pub fn new(n: usize, reach: u64, rows: &[Packed]) -> Result<Listed, Refusal>
         ensures { MatchResult result (λ l. Passes (making_checks n reach rows.now) × (l.n ≡ n) × (l.limit ≡ reach) × (take l.rows.count l.rows.slots ≡ rows.now)) (λ e. RefusedBy (making_checks n reach rows.now) e) }
     {
-        if n > 128 {
+        if n > LARGEST_DIMENSION {
             return Err(Fault::Dimension.at(0));
         }
         let kept = PackedRows::of(rows).ok_or(Fault::TooMany.at(0))?;
@@ -66,19 +66,18 @@ fn packed_price(row: &Packed, prices: &[i64]) -> i128
     requires { length prices.now ≤ 128 }
     ensures { result ≡ price prices.now (unpacked (length prices.now) row.now) }
 {
-    let mut scratch = [0u8; 128];
+    let mut scratch = [0u8; LARGEST_DIMENSION];
     let marks = &mut scratch[0..prices.len()];
     unpack(row, marks);
     price(prices, marks)
 }
 
-/// The index of the first row that costs less than `limit`, if there is one.
-fn first_cheaper(rows: &[Packed], prices: &[i64], limit: i128) -> Option<usize>
+/// The first row that costs less than `limit`, if there is one.
+fn first_cheaper<'a>(rows: &'a [Packed], prices: &[i64], limit: i128) -> Option<&'a Packed>
     requires { length prices.now ≤ 128 }
-    ensures { MatchOption result ((k : ℕ) → k < length rows.now → limit ≤ℤ price prices.now (unpacked (length prices.now) (slice_index_or rows.now k []))) (λ k. (k < length rows.now) × (price prices.now (unpacked (length prices.now) (slice_index_or rows.now k [])) <ℤ limit)) }
+    ensures { MatchOption result ((k : ℕ) → k < length rows.now → limit ≤ℤ price prices.now (unpacked (length prices.now) (slice_index_or rows.now k []))) (λ row. ((k : ℕ) × (k < length rows.now) × (row.now ≡ slice_index_or rows.now k [])) × (price prices.now (unpacked (length prices.now) row.now) <ℤ limit)) }
 {
-    rows.iter()
-        .position(|row| packed_price(row, prices) < limit)
+    rows.iter().find(|row| packed_price(row, prices) < limit)
 }
 
 /// Writes the first row that is cheaper than the point to the output row, if there is one.
@@ -89,8 +88,8 @@ fn write_cheaper(rows: &[Packed], prices: &[i64], point: &[u8], out: &mut [u8]) 
     ensures { Answered (ListedIn (length prices.now) rows.now) prices.now point.now out.old out.new result }
 {
     match first_cheaper(rows, prices, price(prices, point)) {
-        Some(k) => {
-            unpack(&rows[k], out);
+        Some(row) => {
+            unpack(row, out);
             Answer::Found
         }
         None => Answer::Nothing,
@@ -100,7 +99,7 @@ fn write_cheaper(rows: &[Packed], prices: &[i64], point: &[u8], out: &mut [u8]) 
 impl Augmenter for Listed {
     const KIND: u8 = b'L';
 
-    ghost kind = { 76 };
+    ghost KIND = { 76 };
 
     ghost dim = { λ a. a.n };
 
@@ -114,10 +113,6 @@ impl Augmenter for Listed {
 
     ghost member_is_point = { Prim.search rules };
 
-    fn letter() -> u8 {
-        Self::KIND
-    }
-
     fn dimension(&self) -> usize {
         self.n
     }
@@ -127,13 +122,11 @@ impl Augmenter for Listed {
     }
 
     fn belongs(&self, row: &[u8]) -> bool {
-        if row.len() != self.n || bad_mark(row).is_some() {
-            return false;
-        }
-        self.rows.as_slice().contains(&pack(row))
+        is_point(row, self.n) && self.rows.as_slice().contains(&pack(row))
     }
 
     fn better(&self, prices: &[i64], point: &[u8], out: &mut [u8]) -> Result<Answer, Refusal> {
+        // not in a function over every set: tried, and such a call from an impl of the trait gets no proof
         shared_checks(self.n, self.limit, prices, point, out.len())?;
         if !self.belongs(point) {
             return Err(Fault::NotMember.at(0));

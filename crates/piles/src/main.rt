@@ -7,6 +7,7 @@ mod through;
 use augmenter::Augmenter;
 use job::tries::{Call, Outcome};
 use orders::{Expected, PRICES, bottom, listed, pinned, renumbered, turned};
+use reports::ending::report;
 use reports::failures::Failure;
 use reports::marks::Marks;
 use rows::packed::{Packed, unpack};
@@ -18,11 +19,7 @@ use std::io;
 use through::plan_through;
 
 fn main(rt: HostRuntime) -> io::Result<()> {
-    match show_piles(&rt) {
-        Ok(()) => Ok(()),
-        Err(Failure::Refused(refusal)) => println!(rt; "{refusal}"),
-        Err(Failure::Io(error)) => Err(error),
-    }
+    report(&rt, show_piles(&rt))
 }
 
 fn show_piles(rt: &HostRuntime) -> Result<(), Failure> {
@@ -66,8 +63,7 @@ fn show<A: Augmenter + Drop>(
 
 /// The point of a plan.
 fn chosen(plan: &[u8; plans::LENGTH]) -> [u8; 4] {
-    let mut packed: Packed = [0; 16];
-    packed.copy_from_slice(&plan[10..26]);
+    let packed = Packed::try_from(&plan[10..26]).unwrap();
     let mut row = [0; 4];
     unpack(&packed, &mut row);
     row
@@ -124,7 +120,7 @@ fn show_letter(rt: &HostRuntime) -> Result<(), Failure> {
     let plan = plan_through(pile, 1, start, &PRICES)?;
     println!(rt;
         "\nKind letter through turned, pinned and renumbered: {}",
-        plan[1] as char
+        char::from(plan[1])
     )?;
     Ok(())
 }

@@ -1,5 +1,7 @@
 //! One listed set, three layers, and what the six orders of piling them give.
 
+ghost use Rattle.std.specs.Prelude.{◌≤◌};
+
 use augmenter::Augmenter;
 use listed::Listed;
 use pinned::Pinned;
@@ -76,14 +78,21 @@ pub const RENUMBERED_PINNED_TURNED: Expected = Expected {
     start: [0, 1, 1, 0],
 };
 
+/// The listed set of some rows.
+fn set<const N: usize>(rows: [[u8; 4]; N]) -> Result<Listed, Refusal>
+    requires { N ≤ 256 }
+{
+    Listed::new(4, REACH, &rows.map(|row| pack(&row)))
+}
+
 /// The listed set below the piles.
 pub fn bottom() -> Result<Listed, Refusal> {
-    Listed::new(4, REACH, &ROWS.map(|row| pack(&row)))
+    set(ROWS)
 }
 
 /// The listed set of a pile's members.
 pub fn listed(expected: &Expected) -> Result<Listed, Refusal> {
-    Listed::new(4, REACH, &expected.members.map(|row| pack(&row)))
+    set(expected.members)
 }
 
 pub fn turned<A: Augmenter + Drop>(below: A) -> Result<Turned<A>, Refusal> {

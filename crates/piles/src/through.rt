@@ -15,7 +15,7 @@ pub fn plan_through(
     number: u32,
     start: &[u8],
     prices: &[i64],
-) -> Result<[u8; 46], Refusal>
+) -> Result<[u8; plans::LENGTH], Refusal>
     ensures { IfOk result (λ u. slice_index u 1 ≡ 76) }
 {
     plan(pile, number, start, prices)

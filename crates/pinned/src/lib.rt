@@ -12,7 +12,7 @@ ghost use Rattle.std.proofs.Common.{rules};
 
 use augmenter::answers::Answer;
 use augmenter::{Augmenter, check_row, shared_checks};
-use rows::points::{Padded, padded};
+use rows::points::{LARGEST_DIMENSION, Padded, padded};
 use rows::prices::weight;
 use rows::refusals::{Fault, Refusal};
 
@@ -37,6 +37,7 @@ fn count_pins(row: &[u8]) -> u64
     ensures is { result ≡ pin_count row.now }
     ensures few { result ≤ length row.now }
 {
+    // not a sum of a chain: tried, and its bound, which a clause states, was not proved
     let mut count: u64 = 0;
     for entry in row {
         count += one_pin(*entry);
@@ -105,7 +106,7 @@ fn ask_price(price: i64, pin: u8, penalty: u64) -> i64
     }
 }
 
-/// Writes the prices asked below, for a penalty.
+/// Writes the prices asked below, for a penalty. A loop of its own, as in turned sets: with a closure it is no plainer.
 fn ask_prices(prices: &[i64], pins: &[u8], penalty: u64, out: &mut [i64])
     requires pins { length pins.now ≡ length prices.now }
     requires room { length out.old ≡ length prices.now }
@@ -131,7 +132,7 @@ fn write_question(prices: &[i64], pins: &[u8], out: &mut [i64])
 impl<A: Augmenter> Augmenter for Pinned<A> {
     const KIND: u8 = A::KIND;
 
-    ghost kind = { A.kind };
+    ghost KIND = { A.KIND };
 
     ghost dim = { λ t. A.dim t.below };
 
@@ -145,11 +146,7 @@ impl<A: Augmenter> Augmenter for Pinned<A> {
 
     ghost member_is_point = { λ a x m. A.member_is_point a.below x m.0 };
 
-    // As the set below, like the dimension: a default body in the trait could not be proved, where constants are opaque.
-    fn letter() -> u8 {
-        A::letter()
-    }
-
+    // Each layer passes on what it does not alter: a default body in the trait would have no set below to ask.
     fn dimension(&self) -> usize {
         self.below.dimension()
     }
@@ -166,6 +163,7 @@ impl<A: Augmenter> Augmenter for Pinned<A> {
 
     fn better(&self, prices: &[i64], point: &[u8], out: &mut [u8]) -> Result<Answer, Refusal> {
         let n = self.below.dimension();
+        // not in a function over every set: tried, and such a call from an impl of the trait gets no proof
         shared_checks(n, self.reach(), prices, point, out.len())?;
         if !self.belongs(point) {
             return Err(Fault::NotMember.at(0));
@@ -174,7 +172,7 @@ impl<A: Augmenter> Augmenter for Pinned<A> {
         if weight(prices) == 0 {
             return Ok(Answer::Nothing);
         }
-        let mut scratch = [0i64; 128];
+        let mut scratch = [0i64; LARGEST_DIMENSION];
         let question = &mut scratch[..n];
         write_question(prices, &self.pins[..n], question);
         self.below.better(question, point, out)

@@ -9,6 +9,7 @@ use Rattle.rows.specs.Refusals.{Passes, ask, ask_at}
 use Rattle.rows.specs.declared.refusals.Fault.TheVariants.{Length, Mark}
 use Rattle.rows.specs.declared.refusals.Refusal.{Refusal}
 use Rattle.rows.proofs.Checks.{not_both, past}
+use Rattle.rows.proofs.Marks.{marks_good}
 use Rattle.rows.proofs.Packing.{unpacked_point}
 use Rattle.augmenter.specs.Questions.{Lengths}
 use Rattle.commands.specs.Commands.{Said}
@@ -18,10 +19,6 @@ use Rattle.script.specs.Scripts.{Begins, Describes, InOrder, Last, Means, dimens
 use Rattle.script.specs.declared.problem.Problem.{Problem}
 use Rattle.planning.specs.Bytes.{Answer, refusal_bytes}
 use Rattle.planning.specs.Answers.{Answers, Member, Solved, Solves, prices_in, start_checks, start_in}
-
--- a row of marks has no bad one
-no_bad : (x : List ℕ) (i : ℕ) → Marks x → BadMark x i → ⊥
-no_bad x i m b = let h = m i b.0 in omega (arith, b.1)
 
 -- a problem planned over its listed set
 module _ (p : Problem) (long : length p.prices ≡ 128) where
@@ -35,7 +32,7 @@ module _ (p : Problem) (long : length p.prices ≡ 128) where
       let ps = prices_in p in
       let x = start_in p in
       let r = past (ask Length (Lengths n ps x n)) (ask_at Mark (Marks x) (BadMark x) ∷ start_checks p) e lengths (λ i a b. b.1 a) h in
-      inr (made, past (ask_at Mark (Marks x) (BadMark x)) (start_checks p) e (unpacked_point n p.start).1 (λ i a b. no_bad x i a b) r)
+      inr (made, past (ask_at Mark (Marks x) (BadMark x)) (start_checks p) e (unpacked_point n p.start).1 (λ i a b. marks_good x i a b) r)
 
   -- the set was made of rows that are those of the problem, and asked with its start and prices
   pub solves : (n R : ℕ) (rows given : List (List ℕ)) (s : List ℕ) (ps : List ℤ) (r : Result (List ℕ) Refusal) → n ≡ p.dimension → R ≡ p.reach → rows ≡ given → given ≡ listed_rows p →

@@ -7,6 +7,7 @@ use crate::answer::Answer;
 use commands::command::Command;
 use listed::Listed;
 use rows::packed::unpack;
+use rows::points::LARGEST_DIMENSION;
 use rows::refusals::Refusal;
 use runs::planning::plan;
 use script::parsing::parse;
@@ -28,19 +29,19 @@ pub fn refusal_bytes(refusal: Refusal) -> [u8; 6]
 }
 
 /// Plans a problem: the set is made, and then job 1 over it.
-pub fn solve(problem: &Problem) -> Result<[u8; 46], Refusal>
+pub fn solve(problem: &Problem) -> Result<[u8; plans::LENGTH], Refusal>
     ensures { Solves problem.now result }
 {
     let n = usize::from(problem.dimension);
     let listed = Listed::new(n, problem.reach, problem.rows.as_slice())?;
-    let mut start = [0; 128];
+    let mut start = [0; LARGEST_DIMENSION];
     let start = &mut start[..n];
     unpack(&problem.start, start);
     plan(listed, JOB, start, &problem.prices[..n])
 }
 
 /// The plan of what a script describes, or the first refusal.
-fn plan_script(script: &[u8]) -> Result<[u8; 46], Refusal>
+fn plan_script(script: &[u8]) -> Result<[u8; plans::LENGTH], Refusal>
     ensures gives { Solved script.now result }
     ensures settled { Settled script.now }
 {

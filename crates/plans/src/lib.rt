@@ -33,12 +33,12 @@ pub struct Plan {
     pub improved: u32,
 }
 
-/// The low eight bytes of a signed number, the high one first.
+/// The low eight bytes of a signed number, the high one first. By a pattern, as `as i64` would ask that the number fits.
 fn low_bytes(price: i128) -> [u8; 8]
     ensures { result ≡ signed_bytes 8 price }
 {
-    let b = price.to_be_bytes();
-    [b[8], b[9], b[10], b[11], b[12], b[13], b[14], b[15]]
+    let [_, _, _, _, _, _, _, _, a, b, c, d, e, f, g, h] = price.to_be_bytes();
+    [a, b, c, d, e, f, g, h]
 }
 
 /// The operands of a plan's commands, in bytes.

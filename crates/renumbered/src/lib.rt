@@ -13,17 +13,12 @@ use rows::points::{LARGEST_DIMENSION, Padded, padded};
 use rows::refusals::{Fault, Refusal};
 
 /// A set in other numbers: coordinate i stands for coordinate `numbers[i]` below.
-///
-/// The first `count` numbers are all different and below `count`. That `count` is the dimension below
-/// cannot be kept in a ghost field, so each question compares the two.
 #[derive(Drop)]
-pub struct Renumbered<A> {
+pub struct Renumbered<A: Augmenter> {
     below: A,
-    count: usize,
+    /// a row of the dimension below, in fixed memory since nothing allocates
     numbers: Padded<u8>,
-    ghost small: { count ≤ length numbers },
-    ghost inside: { (i : ℕ) → i < count → slice_index numbers i < count },
-    ghost apart: { (i j : ℕ) → (j < i) × (i < count) → slice_index numbers j ≢ slice_index numbers i },
+    ghost order: { Renumbers (A.dim below) (take (A.dim below) numbers) },
 }
 
 /// Whether an entry is below `n` and equals no earlier one.
@@ -57,24 +52,14 @@ fn making_checks(n: usize, numbers: &[u8]) -> Result<(), Refusal>
 impl<A: Augmenter + Drop> Renumbered<A> {
     /// The set below, with coordinate i for its coordinate `numbers[i]`.
     pub fn new(below: A, numbers: &[u8]) -> Result<Renumbered<A>, Refusal>
-        ensures { MatchResult result (λ l. Passes (making_checks (A.dim below) numbers.now) × (l.below ≡ below) × (l.count ≡ A.dim below) × (take l.count l.numbers ≡ numbers.now)) (λ e. RefusedBy (making_checks (A.dim below) numbers.now) e) }
+        ensures { MatchResult result (λ l. Passes (making_checks (A.dim below) numbers.now) × (l.below ≡ below) × (take (A.dim below) l.numbers ≡ numbers.now)) (λ e. RefusedBy (making_checks (A.dim below) numbers.now) e) }
     {
         let n = below.dimension();
         making_checks(n, numbers)?;
         Ok(Renumbered {
             below,
-            count: n,
             numbers: padded(numbers, 0),
         })
-    }
-}
-
-impl<A: Augmenter> Renumbered<A> {
-    /// Whether the numbers kept renumber the dimension below, as they do in every layer that was made.
-    fn fits(&self) -> bool
-        ensures { Decides result (Renumbers (A.dim self.now.below) (take self.now.count self.now.numbers)) }
-    {
-        self.count == self.below.dimension()
     }
 }
 
@@ -169,13 +154,13 @@ fn put<A: Augmenter>(
 impl<A: Augmenter> Augmenter for Renumbered<A> {
     const KIND: u8 = A::KIND;
 
-    ghost kind = { A.kind };
+    ghost KIND = { A.KIND };
 
     ghost dim = { λ s. A.dim s.below };
 
     ghost reaches = { λ s. A.reaches s.below };
 
-    ghost Member = { λ s x. MemberAbove (A.dim s.below) (A.Member s.below) (take s.count s.numbers) x };
+    ghost Member = { λ s x. MemberAbove (A.dim s.below) (A.Member s.below) (take (A.dim s.below) s.numbers) x };
 
     ghost dim_fits = { Prim.search rules };
 
@@ -183,11 +168,7 @@ impl<A: Augmenter> Augmenter for Renumbered<A> {
 
     ghost member_is_point = { Prim.search rules };
 
-    // As the set below, like the next two: a default body in the trait could not be proved, where constants are opaque.
-    fn letter() -> u8 {
-        A::letter()
-    }
-
+    // Each layer passes on what it does not alter: a default body in the trait would have no set below to ask.
     fn dimension(&self) -> usize {
         self.below.dimension()
     }
@@ -197,18 +178,13 @@ impl<A: Augmenter> Augmenter for Renumbered<A> {
     }
 
     fn belongs(&self, row: &[u8]) -> bool {
-        if !self.fits() || row.len() != self.below.dimension() {
-            return false;
-        }
-        moved_belongs(&self.below, &self.numbers[..self.count], row)
+        let n = self.below.dimension();
+        row.len() == n && moved_belongs(&self.below, &self.numbers[..n], row)
     }
 
     fn better(&self, prices: &[i64], point: &[u8], out: &mut [u8]) -> Result<Answer, Refusal> {
         let n = self.below.dimension();
         shared_checks(n, self.below.reach(), prices, point, out.len())?;
-        if !self.fits() {
-            return Err(Fault::NotMember.at(0));
-        }
-        put(&self.below, &self.numbers[..self.count], prices, point, out)
+        put(&self.below, &self.numbers[..n], prices, point, out)
     }
 }

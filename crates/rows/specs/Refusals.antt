@@ -1,6 +1,7 @@
 -- Refusals: the number of every fault, and what it means that a call's checks, in their order, refuse it or let it pass.
 -- Every promise on a refusal, in every crate, is stated by these few definitions and a list of checks.
-use Rattle.std.specs.Prelude.{◌≡◌, ◌≢◌, ℕ, List, [], ◌∷◌, MatchBool, ◌==◌, Result, MatchResult, codes}
+use Rattle.std.specs.Prelude.{◌≡◌, ◌≢◌, ℕ, List, [], ◌∷◌, MatchBool, ◌==◌, Result, MatchResult, codes, ◌++◌}
+use Rattle.std.specs.Fmt.{decimal}
 use Rattle.rows.specs.declared.refusals.Fault.{Fault}
 use Rattle.rows.specs.declared.refusals.Fault.TheVariants.{Length, Mark, Weight, NotMember, Dimension, TooMany, Reach, OutOfRange, Pins, Numbering, Begun, NotBegun, RowLimit, NotFinished, Ticketed, WrongTicket, ShortBuffer, Full, UnknownLetter, Width, Order, UnknownClass}
 use Rattle.rows.specs.declared.refusals.Refusal.{Refusal}
@@ -59,6 +60,10 @@ reason UnknownLetter = codes "no command has this letter"
 reason Width = codes "an operand is cut short or has another width, or the script is too long"
 reason Order = codes "a command is out of its order, the end of the script is missing, or something follows it"
 reason UnknownClass = codes "no class of records has this letter"
+
+-- a refusal in words
+abbrev pub refusal_text : Refusal → List ℕ
+refusal_text e = codes "Refused by " ++ (decimal (number e.fault) ++ (codes " at place " ++ (decimal e.place ++ codes ".")))
 
 -- a check of a call: what it asks, the fault where that is not so, and what it says of a place that the fault is there
 pub record Check : Type 1 where

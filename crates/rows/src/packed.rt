@@ -2,6 +2,8 @@ ghost use Rattle.std.specs.Prelude.{◌≡◌, ℕ, ◌<◌, ◌≤◌, length, 
 ghost use Rattle.rows.specs.Points.{Point};
 ghost use Rattle.rows.specs.Packed.{bit_at, unpacked, digit, byte_of, packed, ClearFrom, StrayBit};
 
+use crate::points::{LARGEST_DIMENSION, mark_at};
+
 /// A packed point: coordinate i is the bit of value 2^(i mod 8) in byte i div 8.
 pub type Packed = [u8; 16];
 
@@ -22,19 +24,12 @@ fn digit(mark: u8) -> u8
     u8::from(mark != 0)
 }
 
-/// The mark of a coordinate, 0 beyond the row's end.
-fn mark_at(row: &[u8], i: usize) -> u8
-    ensures { result ≡ slice_index row.now i }
-{
-    row.get(i).copied().unwrap_or(0)
-}
-
 /// One byte of a packed point: eight coordinates, the lowest bit first.
 fn byte_of(row: &[u8], byte: usize) -> u8
     requires { byte < 16 }
     ensures { result ≡ byte_of row.now byte }
 {
-    // by the places of bits, since beyond the row's end the marks are 0
+    // by places: an iterator is no plainer, since a row that ends within the byte would first be filled up with zeros
     let mut sum = 0u8;
     for j in (0..8).rev() {
         sum = 2 * sum + digit(mark_at(row, 8 * byte + j));
@@ -68,5 +63,5 @@ pub fn unpack(bytes: &Packed, row: &mut [u8])
 pub fn stray_bit(bytes: &Packed, n: usize) -> Option<usize>
     ensures { MatchOption result (ClearFrom n bytes.now) (λ i. StrayBit n bytes.now i) }
 {
-    (n..128).find(|i| bit_at(bytes, *i) == 1)
+    (n..LARGEST_DIMENSION).find(|i| bit_at(bytes, *i) == 1)
 }

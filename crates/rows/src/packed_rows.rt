@@ -8,7 +8,9 @@ use crate::refusals::Fault;
 /// The most rows of a list.
 pub const MOST_ROWS: usize = 256;
 
-/// A list of packed points, with room for all of them from the start.
+/// A list of packed points, with room for all of them from the start, since nothing allocates.
+///
+/// Clauses name the list as the first `count` of `slots`: a `Model` would, but a type that is `Copy` can have none.
 #[derive(Clone, Copy)]
 pub struct PackedRows {
     count: usize,

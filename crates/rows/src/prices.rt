@@ -92,6 +92,7 @@ pub fn ones_below(prices: &[i64], plane: u32) -> u128
     ensures is { result ≡ ones_below plane prices.now }
     ensures few { result ≤ length prices.now * 64 }
 {
+    // not a sum of a chain: tried, and its bound, which a clause states, was not proved
     let mut low: u128 = 0;
     for p in prices {
         low += u128::from(remainder(p.unsigned_abs(), plane).count_ones());
@@ -111,6 +112,7 @@ fn pay(price: i64, mark: u8) -> i128
 pub fn price(prices: &[i64], point: &[u8]) -> i128
     ensures { result ≡ price prices.now point.now }
 {
+    // not a sum of a chain, which gives no bound for signed numbers
     let mut sum: i128 = 0;
     for (p, mark) in prices.iter().zip(point) {
         sum += pay(*p, *mark);

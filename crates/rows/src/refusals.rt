@@ -1,7 +1,6 @@
 ghost use Rattle.std.specs.Prelude.{◌≡◌, Some};
-ghost use Rattle.rows.specs.Refusals.{number as numbered, Numbers, reason};
+ghost use Rattle.rows.specs.Refusals.{number as numbered, Numbers, reason, refusal_text};
 
-use std::error::Error;
 use std::fmt;
 
 /// Why a call is refused. As a `u8` each has its number in the table of refusals.
@@ -177,6 +176,8 @@ impl fmt::Display for Fault {
 }
 
 impl fmt::Display for Refusal {
+    ghost output = { λ e. Some (refusal_text e) };
+
     fn fmt<W: fmt::Write>(&self, f: &mut fmt::Formatter<W>) -> fmt::Result {
         write!(
             f,

@@ -49,7 +49,7 @@ Concluded letter n M v (Ok u) = Planned letter n v.number M v.prices u
 Concluded letter n M v (Err e) = ⊥
 
 abbrev pub ConcludedBy : {X : Type 0} {G : Ghosts X} → Job X G → Result (List ℕ) Refusal → Type 0
-ConcludedBy {X} {G} a r = Concluded G.kind (G.dim a.below) (G.Member a.below) (view a) r
+ConcludedBy {X} {G} a r = Concluded G.KIND (G.dim a.below) (G.Member a.below) (view a) r
 
 -- a plan exactly where start and prices pass the checks of a question, else the refusal of the first that they do not
 abbrev pub PlanOf : ℕ → ℕ → ℕ → ℕ → (List ℕ → Type 0) → List ℕ → List ℤ → Result (List ℕ) Refusal → Type 0

@@ -24,7 +24,7 @@ fn try_on<A: Augmenter>(
     ensures below { job.new.below ≡ job.old.below }
     ensures count { result ≡ min (length calls.now) (length outcomes.old) }
     ensures rest { drop result outcomes.new ≡ drop result outcomes.old }
-    ensures promise { Tried A.kind (A.dim job.old.below) (A.reaches job.old.below) job.old.number (A.Member job.old.below) (take result calls.now) (take result outcomes.new) (view job.new) }
+    ensures promise { Tried A.KIND (A.dim job.old.below) (A.reaches job.old.below) job.old.number (A.Member job.old.below) (take result calls.now) (take result outcomes.new) (view job.new) }
 {
     let n = calls.len().min(outcomes.len());
     // an index for the rows that are read: of an `iter_mut` that is zipped nothing is known after the loop
@@ -44,7 +44,7 @@ pub fn try_calls<A: Augmenter>(
     ensures below { result.0.below ≡ augmenter }
     ensures count { result.1 ≡ min (length calls.now) (length outcomes.old) }
     ensures rest { drop result.1 outcomes.new ≡ drop result.1 outcomes.old }
-    ensures promise { Tried A.kind (A.dim augmenter) (A.reaches augmenter) number (A.Member augmenter) (take result.1 calls.now) (take result.1 outcomes.new) (view result.0) }
+    ensures promise { Tried A.KIND (A.dim augmenter) (A.reaches augmenter) number (A.Member augmenter) (take result.1 calls.now) (take result.1 outcomes.new) (view result.0) }
 {
     let mut job = Job::new(augmenter, number);
     let count = try_on(&mut job, calls, outcomes);

@@ -3,7 +3,7 @@ use Rattle.std.proofs.Common.{◌≡◌, ℕ, length-drop, length-take, ◌-◌,
 use Rattle.std.specs.Int.Digits.{number_from_digits}
 use Rattle.std.proofs.ByRecursion.{All-push}
 use Rattle.std.proofs.lemmas.List.{append_assoc, append-nil, get_or-set_other, get_or-set_same, map_push, take_rest}
-use Rattle.std.proofs.lemmas.Bool.{cases_eq, ne_eqb}
+use Rattle.std.proofs.lemmas.Bool.{cases_eq, eqb-false, ne_eqb}
 use Rattle.rows.specs.Classes.{class_of, days}
 use Rattle.rows.specs.Packed.{ClearFrom}
 use Rattle.rows.specs.Refusals.{Passes, RefusedBy}
@@ -89,21 +89,49 @@ named_first s t o cs n e k q = q ∙ ap (λ (l : List Said). dimension_of (l ++ 
 
 -- what the command c leaves as it was
 module _ (cs : List Said) (c : Said) (p : Problem) (m : Means cs p) (g : Continues cs c) where
-  pub dimension_kept : (c.0 ≡ 78 → ⊥) → p.dimension ≡ dimension_of (cs ++ c ∷ [])
+  dimension_kept : (c.0 ≡ 78 → ⊥) → p.dimension ≡ dimension_of (cs ++ c ∷ [])
   dimension_kept n = let k = staged cs c g in named_on k.0 k.1 c cs p.dimension k.2 k.3 n m.dimension
 
-  pub reach_kept : (c.0 ≡ 76 → ⊥) → ReachIs (cs ++ c ∷ []) p.reach
+  reach_kept : (c.0 ≡ 76 → ⊥) → ReachIs (cs ++ c ∷ []) p.reach
   reach_kept n = last_on (λ x. x.0 ≡ 76) (λ x. number_from_digits 256 x.1) 0 cs c _ n m.reach
 
-  pub listed_kept : (c.0 ≡ 80 → ⊥) → listed_rows p ≡ rows_of (cs ++ c ∷ [])
+  listed_kept : (c.0 ≡ 80 → ⊥) → listed_rows p ≡ rows_of (cs ++ c ∷ [])
   listed_kept n =
       m.listed ∙ sym (rows_on cs c ∙ (ap (λ (b : Bool). rows_of cs ++ cond b (c.1 ∷ []) []) (ne_eqb c.0 80 n) ∙ append-nil (rows_of cs)))
 
-  pub prices_kept : (c.0 ≡ 67 → ⊥) → (c.0 ≡ 89 → ⊥) → (i : ℕ) → i < 128 → PriceAt (cs ++ c ∷ []) i (get_or p.prices i (pos 0))
+  prices_kept : (c.0 ≡ 67 → ⊥) → (c.0 ≡ 89 → ⊥) → (i : ℕ) → i < 128 → PriceAt (cs ++ c ∷ []) i (get_or p.prices i (pos 0))
   prices_kept n k i l = last_on (Pricing i) price_of (pos 0) cs c _ (λ q. neither c.0 67 89 n k q.0) (m.prices i l)
 
-  pub start_kept : (c.0 ≡ 83 → ⊥) → StartIs (cs ++ c ∷ []) p.start
+  start_kept : (c.0 ≡ 83 → ⊥) → StartIs (cs ++ c ∷ []) p.start
   start_kept n = last_on (λ x. x.0 ≡ 83) (λ x. x.1) (replicate 16 0) cs c _ n m.start
+
+-- what holds of a part of the problem after a command: the new fact where b says that the part is the command's, else that it is as before
+abbrev pub Part : Bool → Type 0 → Type 0 → Type 0
+Part true new same = new
+Part false new same = same
+
+part : {N S R : Type 0} (x y : ℕ) → Part (eqb x y) N S → (N → R) → ((x ≡ y → ⊥) → S → R) → R
+part {N} {S} {R} x y h f g = pick (eqb x y) refl h
+  where
+    pick : (b : Bool) → eqb x y ≡ b → Part b N S → R
+    pick true e k = f k
+    pick false e k = g (eqb-false x y e) k
+
+-- the problem q after a command that is neither a C nor a Y
+pub means_on : (cs : List Said) (x : ℕ) (o : List ℕ) (p q : Problem) → Means cs p → Continues cs (x, o) → (x ≡ 67 → ⊥) → (x ≡ 89 → ⊥) → q.prices ≡ p.prices →
+    Part (eqb x 78) (q.dimension ≡ dimension_of (cs ++ (x, o) ∷ [])) (q.dimension ≡ p.dimension) →
+    Part (eqb x 76) (ReachIs (cs ++ (x, o) ∷ []) q.reach) (q.reach ≡ p.reach) →
+    Part (eqb x 80) (listed_rows q ≡ rows_of (cs ++ (x, o) ∷ [])) (listed_rows q ≡ listed_rows p) →
+    Part (eqb x 83) (StartIs (cs ++ (x, o) ∷ []) q.start) (q.start ≡ p.start) → Means (cs ++ (x, o) ∷ []) q
+means_on cs x o p q m g c y prices n l r s =
+    let e = cs ++ (x, o) ∷ [] in
+    record {
+      dimension = part x 78 n (λ k. k) (λ k i. i ∙ dimension_kept cs (x, o) p m g k);
+      reach = part x 76 l (λ k. k) (λ k i. subst (ReachIs e) (sym i) (reach_kept cs (x, o) p m g k));
+      listed = part x 80 r (λ k. k) (λ k i. i ∙ listed_kept cs (x, o) p m g k);
+      prices = λ i k. subst (λ (v : List ℤ). PriceAt e i (get_or v i (pos 0))) (sym prices) (prices_kept cs (x, o) p m g c y i k);
+      start = part x 83 s (λ k. k) (λ k i. subst (StartIs e) (sym i) (start_kept cs (x, o) p m g k));
+    }
 
 -- and what it gives
 pub dimension_new : (cs : List Said) (o : List ℕ) (n : ℕ) → Continues cs (78, o) → n ≡ number_from_digits 256 o → n ≡ dimension_of (cs ++ (78, o) ∷ [])
@@ -176,13 +204,7 @@ pub row_added : (p : Problem) (small : p.dimension ≤ 128) (rows : PackedRows) 
 row_added p small rows o row (Ok u) e clear h =
     λ cs m g a. (
       row_passes cs o a g (subst (λ (n : ℕ). ClearFrom n o) m.dimension clear) (omega (arith, h.0, ap length m.listed, length-take p.rows.count p.rows.slots)),
-      record {
-        dimension = dimension_kept cs (80, o) p m g (λ e. omega arith);
-        reach = reach_kept cs (80, o) p m g (λ e. omega arith);
-        listed = h.1 ∙ (ap₂ (λ (u : List (List ℕ)) (v : List ℕ). u ++ v ∷ []) m.listed e ∙ sym (rows_on cs (80, o)));
-        prices = prices_kept cs (80, o) p m g (λ e. omega arith) (λ e. omega arith);
-        start = start_kept cs (80, o) p m g (λ e. omega arith);
-      },
+      means_on cs 80 o p _ m g (λ e. omega arith) (λ e. omega arith) refl refl refl (h.1 ∙ (ap₂ (λ (u : List (List ℕ)) (v : List ℕ). u ++ v ∷ []) m.listed e ∙ sym (rows_on cs (80, o)))) refl,
     )
 row_added p small rows o row (Err f) e clear h =
     λ cs m g a. subst (λ (k : Fault). RefusedBy (command_checks a cs (80, o)) (record { fault = k; place = a })) (sym h.0)
@@ -262,13 +284,7 @@ pub end_added : (p : Problem) (o : List ℕ) → Adds p (90, o) (Ok tt) p
 end_added p o =
     λ cs m g a. (
       end_passes cs o a g,
-      record {
-        dimension = dimension_kept cs (90, o) p m g (λ e. omega arith);
-        reach = reach_kept cs (90, o) p m g (λ e. omega arith);
-        listed = listed_kept cs (90, o) p m g (λ e. omega arith);
-        prices = prices_kept cs (90, o) p m g (λ e. omega arith) (λ e. omega arith);
-        start = start_kept cs (90, o) p m g (λ e. omega arith);
-      },
+      means_on cs 90 o p p m g (λ e. omega arith) (λ e. omega arith) refl refl refl refl refl,
     )
 
 -- the command k, whose letter is x, and o what the stage of the draft d is after the letter
@@ -276,19 +292,24 @@ module _ (d : Draft) (k : Command) (s : Said) (x : ℕ) (o : Option Stage) (e : 
   letter_next : next d.stage (said k).0 ≡ o
   letter_next = ap (next d.stage) (sym (f ∙ ap (λ (c : Said). c.0) e)) ∙ sym n
 
-  taken_for : (t : Stage) (q : Problem) (r : Result (Unit {0}) Fault) → o ≡ Some t → Adds d.problem (said k) r q → Takes d (said k) r (record { stage = t; problem = q })
-  taken_for t q (Ok u) i h =
-      λ cs l a. (let b = h cs l.means (order_ok cs (said k) d.stage l.stage t (letter_next ∙ i)) a in (b.0, record { stage = stage_on cs (said k) d.stage t l.stage (letter_next ∙ i); means = b.1 }))
-  taken_for t q (Err g) i h = λ cs l a. h cs l.means (order_ok cs (said k) d.stage l.stage t (letter_next ∙ i)) a
-
   -- the order and the problem are both one command further
-  pub taken : (t : Stage) (j : Command) (q : Problem) (r : Result (Unit {0}) Fault) → o ≡ Some t → k ≡ j → Adds d.problem (said j) r q → Takes d (said k) r (record { stage = t; problem = q })
-  taken t j q r i w h = taken_for t q r i (subst (λ (v : Command). Adds d.problem (said v) r q) (sym w) h)
+  pub taken : (t : Stage) (q : Problem) → o ≡ Some t → Adds d.problem (said k) (Ok tt) q → Takes d (said k) (Ok tt) (record { stage = t; problem = q })
+  taken t q i h =
+      λ cs l a. (let b = h cs l.means (order_ok cs (said k) d.stage l.stage t (letter_next ∙ i)) a in (b.0, record { stage = stage_on cs (said k) d.stage t l.stage (letter_next ∙ i); means = b.1 }))
+
+  -- or the problem refuses the command
+  pub not_added : (t : Stage) (y : Draft) (q : Problem) (g : Fault) (r : Result (Unit {0}) Fault) → o ≡ Some t → r ≡ Err g → Adds d.problem (said k) (Err g) q → Takes d (said k) r y
+  not_added t y q g r i w h =
+      subst (λ (v : Result (Unit {0}) Fault). Takes d (said k) v y) (sym w) (λ cs l a. h cs l.means (order_ok cs (said k) d.stage l.stage t (letter_next ∙ i)) a)
 
   -- or the command may not come next
   pub out_of_order : (y : Draft) (g : Fault) (r : Result (Unit {0}) Fault) → o ≡ None → r ≡ Err g → g ≡ fault.Order → Takes d (said k) r y
   out_of_order y g r i w h =
       subst (λ (v : Result (Unit {0}) Fault). Takes d (said k) v y) (sym (w ∙ ap Err h)) (λ cs l a. (refl, order_bad cs (said k) d.stage l.stage (letter_next ∙ i)))
+
+-- the command k is j
+pub added : (k j : Command) (p q : Problem) (r : Result (Unit {0}) Fault) → k ≡ j → Adds p (said j) r q → Adds p (said k) r q
+added k j p q r w h = subst (λ (v : Command). Adds p (said v) r q) (sym w) h
 
 pub only_command : (k : Command) (a t : Stage) → next a (said k).0 ≡ Some t → ((o : Bor (List ℕ)) → k ≡ command.Dimension o → ⊥) → ((o : Bor (List ℕ)) → k ≡ command.Reach o → ⊥) → ((o : Bor (List ℕ)) → k ≡ command.ListedRow o → ⊥) → ((o : Bor (List ℕ)) → k ≡ command.Price o → ⊥) → ((o : Bor (List ℕ)) → k ≡ command.Units o → ⊥) → ((o : Bor (List ℕ)) → k ≡ command.Start o → ⊥) → (k ≡ command.End → ⊥) → ⊥
 only_command (command.Dimension o) a t e n l p c y s z = n o refl
@@ -312,3 +333,34 @@ only_command (command.Cost o) a t e n l p c y s z = only a t 77 e (λ e. omega a
 only_command (command.Asked o) a t e n l p c y s z = only a t 81 e (λ e. omega arith) (λ e. omega arith) (λ e. omega arith) (λ e. omega arith) (λ e. omega arith) (λ e. omega arith) (λ e. omega arith)
 only_command (command.Improved o) a t e n l p c y s z = only a t 73 e (λ e. omega arith) (λ e. omega arith) (λ e. omega arith) (λ e. omega arith) (λ e. omega arith) (λ e. omega arith) (λ e. omega arith)
 only_command (command.Refused o) a t e n l p c y s z = only a t 69 e (λ e. omega arith) (λ e. omega arith) (λ e. omega arith) (λ e. omega arith) (λ e. omega arith) (λ e. omega arith) (λ e. omega arith)
+
+-- a command that no stage takes never comes
+pub not_met : (k : Command) (p q : Problem) (f : Fault) → ((t s : Stage) → next s (said k).0 ≡ Some t → ⊥) → Adds p (said k) (Err f) q
+not_met k p q f n = λ cs m g a. (let h = staged cs (said k) g in absurd (n h.1 h.0 h.3))
+
+-- the letter Z is that of the end alone
+pub end_is : (k : Command) → k ≡ command.End → (said k).0 ≡ 90
+end_is k e = ap (λ (c : Command). (said c).0) e
+
+pub not_end : (k : Command) → (k ≡ command.End → ⊥) → (said k).0 ≡ 90 → ⊥
+not_end command.End n e = n refl
+not_end (command.Dimension o) n e = omega arith
+not_end (command.Reach o) n e = omega arith
+not_end (command.ListedRow o) n e = omega arith
+not_end (command.FlowNodes o) n e = omega arith
+not_end (command.GraphNodes o) n e = omega arith
+not_end (command.Arc o) n e = omega arith
+not_end (command.Balance o) n e = omega arith
+not_end (command.Classes o) n e = omega arith
+not_end (command.Class o) n e = omega arith
+not_end (command.Capacity o) n e = omega arith
+not_end (command.Price o) n e = omega arith
+not_end (command.Units o) n e = omega arith
+not_end (command.Start o) n e = omega arith
+not_end (command.Kind o) n e = omega arith
+not_end (command.JobNumber o) n e = omega arith
+not_end (command.Point o) n e = omega arith
+not_end (command.Cost o) n e = omega arith
+not_end (command.Asked o) n e = omega arith
+not_end (command.Improved o) n e = omega arith
+not_end (command.Refused o) n e = omega arith

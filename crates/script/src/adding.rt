@@ -1,29 +1,53 @@
 ghost use Rattle.std.specs.Prelude.{◌≡◌, ◌<◌, ◌≤◌, length, slice_set, MatchResult};
 ghost use Rattle.rows.specs.Packed.{ClearFrom};
 ghost use Rattle.rows.specs.declared.refusals.Fault.TheVariants.{OutOfRange};
+ghost use Rattle.commands.specs.Commands.{Whole, said};
 ghost use Rattle.script.specs.Stages.{Adds};
 
 use crate::problem::Problem;
+use commands::command::Command;
 use commands::numbers::number;
 use rows::classes::Class;
 use rows::packed::{Packed, stray_bit};
+use rows::points::LARGEST_DIMENSION;
 use rows::refusals::Fault;
 
 /// Each command adds its operand to the problem, or is refused.
+///
+/// The width of the operand stands in each clause: as a type it would ask more of those who hand a writer an operand of another width, and get a refusal.
 impl Problem {
-    pub(crate) fn add_dimension(&mut self, operand: &[u8]) -> Result<(), Fault>
+    /// Adds what a command that may come next says.
+    #[tactic(auto, using(crate::proofs::Taking::added))]
+    pub(crate) fn add(&mut self, command: &Command<'_>) -> Result<(), Fault>
+        requires { Whole (said command.now) }
+        ensures { Adds self.old (said command.now) result self.new }
+    {
+        match *command {
+            Command::Dimension(operand) => self.add_dimension(operand),
+            Command::Reach(operand) => self.add_reach(operand),
+            Command::ListedRow(operand) => self.add_row(operand),
+            Command::Price(operand) => self.add_price(operand),
+            Command::Units(operand) => self.add_units(operand),
+            Command::Start(operand) => self.add_start(operand),
+            Command::End => Ok(()),
+            // never met, as no stage is followed by another letter
+            _ => Err(Fault::Order),
+        }
+    }
+
+    fn add_dimension(&mut self, operand: &[u8]) -> Result<(), Fault>
         requires { length operand.now ≡ 1 }
         ensures { Adds self.old (78, operand.now) result self.new }
     {
         let n = number(operand);
-        if n > 128 {
+        if n > LARGEST_DIMENSION as u64 {
             return Err(Fault::Dimension);
         }
         self.dimension = n as u8;
         Ok(())
     }
 
-    pub(crate) fn add_reach(&mut self, operand: &[u8]) -> Result<(), Fault>
+    fn add_reach(&mut self, operand: &[u8]) -> Result<(), Fault>
         requires { length operand.now ≡ 8 }
         ensures { Adds self.old (76, operand.now) result self.new }
     {
@@ -35,7 +59,7 @@ impl Problem {
         Ok(())
     }
 
-    pub(crate) fn add_row(&mut self, operand: &[u8]) -> Result<(), Fault>
+    fn add_row(&mut self, operand: &[u8]) -> Result<(), Fault>
         requires { length operand.now ≡ 16 }
         ensures { Adds self.old (80, operand.now) result self.new }
     {
@@ -43,7 +67,7 @@ impl Problem {
         self.rows.push(row)
     }
 
-    pub(crate) fn add_price(&mut self, operand: &[u8]) -> Result<(), Fault>
+    fn add_price(&mut self, operand: &[u8]) -> Result<(), Fault>
         requires { length operand.now ≡ 9 }
         ensures { Adds self.old (67, operand.now) result self.new }
     {
@@ -51,7 +75,7 @@ impl Problem {
         self.set_price(operand[0], price)
     }
 
-    pub(crate) fn add_units(&mut self, operand: &[u8]) -> Result<(), Fault>
+    fn add_units(&mut self, operand: &[u8]) -> Result<(), Fault>
         requires { length operand.now ≡ 6 }
         ensures { Adds self.old (89, operand.now) result self.new }
     {
@@ -60,7 +84,7 @@ impl Problem {
         self.set_price(operand[0], class.price(units))
     }
 
-    pub(crate) fn add_start(&mut self, operand: &[u8]) -> Result<(), Fault>
+    fn add_start(&mut self, operand: &[u8]) -> Result<(), Fault>
         requires { length operand.now ≡ 16 }
         ensures { Adds self.old (83, operand.now) result self.new }
     {

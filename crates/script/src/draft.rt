@@ -5,6 +5,7 @@ ghost use Rattle.script.specs.Stages.{Holds, Takes, next};
 use crate::problem::Problem;
 use commands::command::Command;
 use rows::packed_rows::PackedRows;
+use rows::points::LARGEST_DIMENSION;
 use rows::refusals::Fault;
 
 /// How far a script is: which commands may come next.
@@ -58,30 +59,21 @@ impl Draft {
                 dimension: 0,
                 reach: 0,
                 rows: PackedRows::new(),
-                prices: [0; 128],
+                prices: [0; LARGEST_DIMENSION],
                 start: [0; 16],
             },
         }
     }
 
     /// Takes one command, or says what refuses it.
-    #[tactic(auto, using(crate::proofs::Taking::taken))]
     pub(crate) fn take(&mut self, command: &Command<'_>) -> Result<(), Fault>
         requires { Whole (said command.now) }
         ensures { Takes self.old (said command.now) result self.new }
     {
         let (letter, _) = command.parts();
-        self.stage = self.stage.after(char::from(letter)).ok_or(Fault::Order)?;
-        match *command {
-            Command::Dimension(operand) => self.problem.add_dimension(operand),
-            Command::Reach(operand) => self.problem.add_reach(operand),
-            Command::ListedRow(operand) => self.problem.add_row(operand),
-            Command::Price(operand) => self.problem.add_price(operand),
-            Command::Units(operand) => self.problem.add_units(operand),
-            Command::Start(operand) => self.problem.add_start(operand),
-            Command::End => Ok(()),
-            // no stage follows another letter
-            _ => Err(Fault::Order),
-        }
+        let stage = self.stage.after(char::from(letter)).ok_or(Fault::Order)?;
+        self.problem.add(command)?;
+        self.stage = stage;
+        Ok(())
     }
 }

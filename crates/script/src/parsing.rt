@@ -3,6 +3,7 @@ ghost use Rattle.script.specs.Scripts.{Parsed, Settled};
 
 use crate::draft::Draft;
 use crate::problem::Problem;
+use commands::command::Command;
 use commands::reader::Reader;
 use rows::refusals::{Fault, Refusal};
 
@@ -22,9 +23,7 @@ pub fn parse(script: &[u8]) -> Result<Problem, Refusal>
     let mut draft = Draft::new();
     while let Some((place, command)) = reader.next()? {
         draft.take(&command).map_err(|fault| fault.at(place))?;
-        // the letter, since rules and promise speak of letters
-        let (letter, _) = command.parts();
-        if letter == b'Z' {
+        if let Command::End = command {
             let end = reader.place();
             if end < script.len() {
                 return Err(Fault::Order.at(end));

@@ -11,7 +11,7 @@ pub struct Problem {
     pub reach: u64,
     /// the listed rows
     pub rows: PackedRows,
-    /// the prices by coordinate, 0 from the dimension on
+    /// the prices by coordinate, 0 from the dimension on, in fixed memory since nothing allocates
     pub prices: Padded<i64>,
     pub start: Packed,
     ghost small: { dimension ≤ 128 },

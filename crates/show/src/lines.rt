@@ -1,10 +1,11 @@
 //! What a command says, in words.
 
-use crate::operands::{byte, dimension, number_from, packed, signed_byte, signed_from, units_from};
+use crate::operands::{dimension, number_from, packed, signed_byte, signed_from, units_from};
 use crate::points::Point;
 use crate::words::{Count, Letter, kind_name};
 use commands::command::{Command, operand_width};
 use rows::classes::Class;
+use rows::points::mark_at as byte;
 use rows::refusals::Fault;
 use std::fmt;
 
@@ -89,7 +90,7 @@ fn write_units<W: fmt::Write>(
     units: u32,
 ) -> fmt::Result {
     let count = Count(u64::from(units), "unit", "units");
-    match Class::try_from(letter as char) {
+    match Class::try_from(char::from(letter)) {
         Ok(class) => write!(
             f,
             "coordinate {coordinate}: {count} of {class}, {} days each, costs {}",
@@ -105,8 +106,8 @@ fn write_units<W: fmt::Write>(
 }
 
 fn write_kind<W: fmt::Write>(f: &mut fmt::Formatter<W>, letter: u8) -> fmt::Result {
-    match kind_name(letter as char) {
-        Some(name) => write!(f, "kind {}, {name}", letter as char),
+    match kind_name(char::from(letter)) {
+        Some(name) => write!(f, "kind {}, {name}", char::from(letter)),
         None => write!(f, "unknown kind, letter {}", Letter(letter)),
     }
 }
@@ -129,7 +130,7 @@ pub struct Stop<'a> {
 impl fmt::Display for Stop<'_> {
     fn fmt<W: fmt::Write>(&self, f: &mut fmt::Formatter<W>) -> fmt::Result {
         let letter = byte(self.run, self.place);
-        match operand_width(letter as char) {
+        match operand_width(char::from(letter)) {
             None => write!(
                 f,
                 "stops here: no command has the letter {}",
@@ -138,7 +139,7 @@ impl fmt::Display for Stop<'_> {
             Some(width) => write!(
                 f,
                 "stops here: the operand of {} is cut short, it has {} of {}",
-                letter as char,
+                char::from(letter),
                 self.run.len().saturating_sub(self.place).saturating_sub(1),
                 Count(width as u64, "byte", "bytes")
             ),

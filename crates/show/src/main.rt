@@ -11,6 +11,7 @@ use commands::command::Command;
 use commands::reader::Reader;
 use lines::{Line, Stop};
 use operands::dimension;
+use reports::failures::Failure;
 use rows::refusals::Refusal;
 use std::io::Read;
 use std::{env, fs, io};
@@ -57,22 +58,25 @@ fn show(rt: &HostRuntime, run: &[u8]) -> io::Result<()> {
 
 /// Prints the commands of a run, and where it breaks off if it does.
 fn show_commands(rt: &HostRuntime, run: &[u8]) -> io::Result<()> {
+    match show_readable(rt, run) {
+        Ok(()) => Ok(()),
+        Err(Failure::Refused(Refusal { place, .. })) => {
+            println!(rt; "{place:>6}     {}", Stop { run, place })
+        }
+        Err(Failure::Io(error)) => Err(error),
+    }
+}
+
+/// Prints the commands of a run, up to the first that the reader refuses.
+fn show_readable(rt: &HostRuntime, run: &[u8]) -> Result<(), Failure> {
     let mut reader = Reader::new(run);
     let mut known = None;
-    // A refused reader stays where it is, so it is no iterator that ends; each command takes a byte at least, so these are turns enough.
-    for _ in 0..run.len() {
-        let (place, command) = match reader.next() {
-            Ok(Some(read)) => read,
-            Ok(None) => return Ok(()),
-            Err(Refusal { place, .. }) => {
-                return println!(rt; "{place:>6}     {}", Stop { run, place });
-            }
-        };
+    while let Some((place, command)) = reader.next()? {
         known = dimension_after(command, known);
         let (letter, _) = command.parts();
         println!(rt;
             "{place:>6}  {}  {}",
-            letter as char,
+            char::from(letter),
             Line { command, known }
         )?;
     }

@@ -4,14 +4,7 @@ ghost use Rattle.std.specs.Prelude.{◌≡◌, ◌<◌, ◌≤◌, length, Match
 
 use commands::numbers::number;
 use rows::packed::Packed;
-use rows::points::LARGEST_DIMENSION;
-
-/// The byte at an index.
-pub fn byte(operand: &[u8], i: usize) -> u8
-    ensures { result ≡ slice_index operand.now i }
-{
-    operand.get(i).copied().unwrap_or(0)
-}
+use rows::points::{LARGEST_DIMENSION, mark_at as byte};
 
 /// The number from an index on.
 pub fn number_from(operand: &[u8], i: usize) -> u64 {

@@ -2,7 +2,7 @@
 
 use std::fmt;
 
-/// The kind of set that a letter of a plan names, if there is one.
+/// The kind of set that a letter of a plan names, if there is one. No type stands for kinds, as their letters are open.
 pub fn kind_name(letter: char) -> Option<&'static str> {
     match letter {
         'L' => Some("a listed set"),
@@ -20,7 +20,7 @@ impl fmt::Display for Letter {
     fn fmt<W: fmt::Write>(&self, f: &mut fmt::Formatter<W>) -> fmt::Result {
         let byte = self.0;
         if byte.is_ascii_graphic() {
-            write!(f, "{} (byte {byte:02X} in hexadecimal)", byte as char)
+            write!(f, "{} (byte {byte:02X} in hexadecimal)", char::from(byte))
         } else {
             write!(f, "of byte {byte:02X} in hexadecimal")
         }

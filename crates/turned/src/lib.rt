@@ -12,7 +12,7 @@ ghost use Rattle.std.proofs.Common.{rules};
 
 use augmenter::answers::Answer;
 use augmenter::{Augmenter, check_row, shared_checks};
-use rows::points::{Padded, bad_mark, padded};
+use rows::points::{LARGEST_DIMENSION, Padded, is_point, padded};
 use rows::refusals::{Fault, Refusal};
 
 /// A set below, turned by a row of marks. Dimension, kind and reach are those below.
@@ -38,6 +38,8 @@ impl<A: Augmenter + Drop> Turned<A> {
 }
 
 /// Writes a row combined with the marks by exclusive or.
+///
+/// A loop of its own beside `turn_prices`: one loop for both, with a closure, is no plainer, since it would state what it asks of the closure at every coordinate.
 fn turn_row(row: &[u8], marks: &[u8], out: &mut [u8])
     requires marks { length marks.now ≡ length row.now }
     requires room { length out.old ≡ length row.now }
@@ -103,7 +105,7 @@ fn turn_back(answer: Answer, found: &[u8], marks: &[u8], out: &mut [u8])
 impl<A: Augmenter> Augmenter for Turned<A> {
     const KIND: u8 = A::KIND;
 
-    ghost kind = { A.kind };
+    ghost KIND = { A.KIND };
 
     ghost dim = { λ t. A.dim t.below };
 
@@ -117,11 +119,7 @@ impl<A: Augmenter> Augmenter for Turned<A> {
 
     ghost member_is_point = { Prim.search rules };
 
-    // As the set below, like the next two: a default body in the trait could not be proved, where constants are opaque.
-    fn letter() -> u8 {
-        A::letter()
-    }
-
+    // Each layer passes on what it does not alter: a default body in the trait would have no set below to ask.
     fn dimension(&self) -> usize {
         self.below.dimension()
     }
@@ -132,10 +130,10 @@ impl<A: Augmenter> Augmenter for Turned<A> {
 
     fn belongs(&self, row: &[u8]) -> bool {
         let n = self.below.dimension();
-        if row.len() != n || bad_mark(row).is_some() {
+        if !is_point(row, n) {
             return false;
         }
-        let mut scratch = [0u8; 128];
+        let mut scratch = [0u8; LARGEST_DIMENSION];
         let turned = &mut scratch[..n];
         turn_row(row, &self.marks[..n], turned);
         self.below.belongs(turned)
@@ -145,9 +143,9 @@ impl<A: Augmenter> Augmenter for Turned<A> {
         let n = self.below.dimension();
         shared_checks(n, self.below.reach(), prices, point, out.len())?;
         let marks = &self.marks[..n];
-        let mut price_scratch = [0i64; 128];
-        let mut point_scratch = [0u8; 128];
-        let mut found_scratch = [0u8; 128];
+        let mut price_scratch = [0i64; LARGEST_DIMENSION];
+        let mut point_scratch = [0u8; LARGEST_DIMENSION];
+        let mut found_scratch = [0u8; LARGEST_DIMENSION];
         let prices_below = &mut price_scratch[..n];
         let point_below = &mut point_scratch[..n];
         let found = &mut found_scratch[..n];

@@ -1,17 +1,19 @@
-use Rattle.std.proofs.Common.{refl, arith}
+use Rattle.std.proofs.Common.{sym, refl, subst, arith}
 use Rattle.rows.proofs.Padding.{kept_row}
-use Rattle.renumbered.proofs.Keeping.{kept_facts, passed_at}
+use Rattle.renumbered.specs.Renumberings.{Renumbers}
+use Rattle.renumbered.proofs.Keeping.{passed_at}
 use Rattle.renumbered.proofs.Renumbered.new.Goals as goal
 
 pub invariant_of-result : goal.invariant_of-result
 invariant_of-result g c =
+    let n = g.A.Augmenter.dim c.args.below in
     let few = g.met.A.Augmenter.dim_fits c.args.below in
-    let passed = c.in_ok-making_checks.ensures in
-    let k = kept_facts _ c.args.numbers.now _ passed.0 (kept_row 128 _ 0 c.args.numbers.now c.padded.result passed.0 (omega arith) c.padded.ensures) passed.1.0 in
-    record { small = k.0; inside = k.1.0; apart = k.1.1.0 }
+    let passed = passed_at _ _ _ c.dimension-n.ensures c.in_ok-making_checks.ensures in
+    let kept = kept_row 128 n 0 c.args.numbers.now c.padded.result passed.0 (omega arith) c.padded.ensures in
+    record { order = subst (Renumbers n) (sym kept) (passed.0, passed.1.0) }
 
 pub returns : goal.returns
 returns g c =
     let few = g.met.A.Augmenter.dim_fits c.args.below in
-    let passed = c.in_ok-making_checks.ensures in
-    (passed_at _ _ _ c.dimension-n.ensures passed, refl, c.dimension-n.ensures, kept_row 128 _ 0 c.args.numbers.now _ passed.0 (omega arith) c.padded.ensures)
+    let passed = passed_at _ _ _ c.dimension-n.ensures c.in_ok-making_checks.ensures in
+    (passed, refl, kept_row 128 _ 0 c.args.numbers.now _ passed.0 (omega arith) c.padded.ensures)

@@ -12,6 +12,6 @@ returns g c =
     let d = view c.write_plan.new.self in
     let u = c.write_plan.new.buffer in
     let finish = c.in_ok-finish.ensures in
-    let W : ℕ → Type 0 = λ n. WrotePlan A.kind n b (replicate 46 0) (Ok tt) d u in
-    concluded A.kind (A.dim a) (A.reaches a) (A.Member a) (view c.args.job.now) b d (replicate 46 0) u refl c.requires (finish.ends c.requires.sound) finish.number
+    let W : ℕ → Type 0 = λ n. WrotePlan A.KIND n b (replicate 46 0) (Ok tt) d u in
+    concluded A.KIND (A.dim a) (A.reaches a) (A.Member a) (view c.args.job.now) b d (replicate 46 0) u refl c.requires (finish.ends c.requires.sound) finish.number
     (subst W (ap A.dim finish.below) c.in_ok-write_plan.ensures.moves)

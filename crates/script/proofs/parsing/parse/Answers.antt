@@ -2,10 +2,10 @@ use Rattle.std.proofs.Common.{◌≡◌, ℕ, List, Err, MatchResult, sym, ap, �
 use Rattle.std.proofs.lemmas.Result.{err_from_is_err_and}
 use Rattle.rows.specs.declared.refusals.Fault.TheVariants.{Order}
 use Rattle.rows.specs.declared.refusals.Refusal.{Refusal}
-use Rattle.commands.specs.Commands.{Said}
 use Rattle.commands.specs.Reading.{Next}
 use Rattle.script.specs.Scripts.{Refuses}
 use Rattle.script.proofs.Reading.{described, going_more, going_none, not_taken, past_end, unreadable, whole_read}
+use Rattle.script.proofs.Taking.{end_is, not_end}
 use Rattle.script.proofs.parsing.parse.Goals as goal
 
 pub loop-place-init : goal.loop-place-init
@@ -37,18 +37,18 @@ returns-in_err-map_err-clause-gives c =
 pub returns-then-end-script-clause-gives : goal.returns-then-end-script-clause-gives
 returns-then-end-script-clause-gives c =
     let s = c.args.script.now in
-    let z = sym (ap (λ (x : Said). x.0) c.parts-letter.ensures) ∙ c.if-letter-eq90.true in
+    let z = end_is _ c.in-End.is in
     let q = past_end s _ _ _ _ (c.in-Some.place, c.in-Some.command) c.loop-place.draft c.loop-place.invariant c.in-Some.is c.in_ok-place.ensures.reads c.take.new.self c.take.result c.in_ok-map_err.ensures.variant c.take.ensures z (omega (arith, c.place-end.ensures.is)) in
     let e = c.at-then-end-script.ensures ∙ ap (λ (k : ℕ). record { fault = Order; place = k }) c.place-end.ensures.is in
     subst (λ (v : Refusal). Refuses s v) (sym e) q
 
-pub returns-then-letter-eq90-clause-gives : goal.returns-then-letter-eq90-clause-gives
-returns-then-letter-eq90-clause-gives c =
+pub returns-in-End-clause-gives : goal.returns-in-End-clause-gives
+returns-in-End-clause-gives c =
     let s = c.args.script.now in
-    let z = sym (ap (λ (x : Said). x.0) c.parts-letter.ensures) ∙ c.if-letter-eq90.true in
+    let z = end_is _ c.in-End.is in
     described s _ _ _ _ (c.in-Some.place, c.in-Some.command) c.loop-place.draft c.loop-place.invariant c.in-Some.is c.in_ok-place.ensures.reads c.take.new.self c.take.result c.in_ok-map_err.ensures.variant c.take.ensures z (omega (arith, c.place-end.ensures.is))
 
 pub loop-place-preserved : goal.loop-place-preserved
 loop-place-preserved c =
     let s = c.args.script.now in
-    (c.in_ok-place.ensures.same ∙ c.loop-place.invariant.0, going_more s _ _ _ _ (c.in-Some.place, c.in-Some.command) c.loop-place.draft c.loop-place.invariant c.in-Some.is c.in_ok-place.ensures.reads c.take.new.self c.take.result c.in_ok-map_err.ensures.variant c.take.ensures (λ e. c.if-letter-eq90.false (ap (λ (x : Said). x.0) c.parts-letter.ensures ∙ e)))
+    (c.in_ok-place.ensures.same ∙ c.loop-place.invariant.0, going_more s _ _ _ _ (c.in-Some.place, c.in-Some.command) c.loop-place.draft c.loop-place.invariant c.in-Some.is c.in_ok-place.ensures.reads c.take.new.self c.take.result c.in_ok-map_err.ensures.variant c.take.ensures (not_end _ c.in_default-command.not-End))

@@ -1,5 +1,5 @@
-use Rattle.std.proofs.Common.{arith}
-use Rattle.script.proofs.Taking.{dimension_kept, listed_kept, prices_kept, reach_new, reach_passes, reach_refused, start_kept}
+use Rattle.std.proofs.Common.{refl, arith}
+use Rattle.script.proofs.Taking.{means_on, reach_new, reach_passes, reach_refused}
 use Rattle.script.proofs.problem.Problem.add_reach.Goals as goal
 
 pub returns-then-reach : goal.returns-then-reach
@@ -13,11 +13,5 @@ returns c cs m g a =
     let o = c.args.operand.now in
     let v = c.number-reach.ensures.short (omega arith) in (
       reach_passes cs o a g (omega arith),
-      record {
-        dimension = dimension_kept cs (76, o) p m g (λ e. omega arith);
-        reach = reach_new cs o _ v;
-        listed = listed_kept cs (76, o) p m g (λ e. omega arith);
-        prices = prices_kept cs (76, o) p m g (λ e. omega arith) (λ e. omega arith);
-        start = start_kept cs (76, o) p m g (λ e. omega arith);
-      },
+      means_on cs 76 o p _ m g (λ e. omega arith) (λ e. omega arith) refl refl (reach_new cs o _ v) refl refl,
     )

@@ -1,7 +1,7 @@
-use Rattle.std.proofs.Common.{subst, ℕ, ◌∙◌, arith}
+use Rattle.std.proofs.Common.{refl, subst, ℕ, ◌∙◌, arith}
 use Rattle.std.proofs.lemmas.Result.{err_from_is_err_and}
 use Rattle.rows.specs.Packed.{ClearFrom}
-use Rattle.script.proofs.Taking.{dimension_kept, handed_on, listed_kept, prices_kept, reach_kept, start_new, start_passes, start_refused}
+use Rattle.script.proofs.Taking.{handed_on, means_on, start_new, start_passes, start_refused}
 use Rattle.script.proofs.problem.Problem.add_start.Goals as goal
 
 pub returns-in_err-self : goal.returns-in_err-self
@@ -15,11 +15,5 @@ returns c cs m g a =
     let p = c.args.self.now in
     let o = c.args.operand.now in (
       start_passes cs o a g (subst (λ (n : ℕ). ClearFrom n o) m.dimension c.in_ok-self.ensures.1),
-      record {
-        dimension = dimension_kept cs (83, o) p m g (λ e. omega arith);
-        reach = reach_kept cs (83, o) p m g (λ e. omega arith);
-        listed = listed_kept cs (83, o) p m g (λ e. omega arith);
-        prices = prices_kept cs (83, o) p m g (λ e. omega arith) (λ e. omega arith);
-        start = start_new cs o _ c.in_ok-self.ensures.0;
-      },
+      means_on cs 83 o p _ m g (λ e. omega arith) (λ e. omega arith) refl refl refl refl (start_new cs o _ c.in_ok-self.ensures.0),
     )
