@@ -14,7 +14,7 @@ use job::job::Job;
 use job::tries::{Call, Outcome};
 use rows::refusals::Refusal;
 
-/// Tries each call on a job in turn; what came of it goes into the caller's memory, as far as that reaches.
+/// Tries each call on a job in turn; what came of it goes into the caller's memory, as far as that reaches, since nothing allocates.
 fn try_on<A: Augmenter>(
     job: &mut Job<A>,
     calls: &[Call<'_>],
@@ -34,7 +34,7 @@ fn try_on<A: Augmenter>(
     n
 }
 
-/// Makes a job over an augmenter and tries each call on it in turn; what came of it goes into the caller's memory, as far as that reaches.
+/// Makes a job over an augmenter and tries each call on it in turn; what came of it goes into the caller's memory, as far as that reaches, since nothing allocates.
 pub fn try_calls<A: Augmenter>(
     augmenter: A,
     number: u32,
