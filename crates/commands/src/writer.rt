@@ -37,7 +37,8 @@ impl Command<'_> {
 fn all_whole(commands: &[Command<'_>]) -> bool
     ensures { Decides result (AllByRecursion Whole (map said commands.now)) }
 {
-    commands.iter().all(|command| command.is_whole())
+    // each command is copied out, here and below: behind a reference the same loops take nearly twice the time
+    commands.iter().all(|&command| command.is_whole())
 }
 
 /// Whether the commands, one after the other, take at most so many bytes.
@@ -46,7 +47,7 @@ fn fit(commands: &[Command<'_>], room: usize) -> bool
 {
     // taken from the room one by one, as a sum of the lengths could overflow
     let mut rest = room;
-    for command in commands {
+    for &command in commands {
         let (_, operand) = command.parts();
         if rest <= operand.len() {
             return false;
@@ -74,8 +75,8 @@ fn put_all(commands: &[Command<'_>], buffer: &mut [u8]) -> usize
     ensures writes { buffer.new ≡ flat_map command_bytes (map said commands.now) ++ drop result buffer.old }
 {
     let mut at = 0;
-    for command in commands {
-        at += put(command, &mut buffer[at..]);
+    for &command in commands {
+        at += put(&command, &mut buffer[at..]);
     }
     at
 }

@@ -24,20 +24,35 @@ fn main(rt: HostRuntime) -> io::Result<()> {
 
 fn show_piles(rt: &HostRuntime) -> Result<(), Failure> {
     println!(rt; "pile                                  reach  start  chosen  price  listed")?;
+    show_turned(rt)?;
+    show_pinned(rt)?;
+    show_renumbered(rt)?;
+    show_calls(rt)?;
+    show_letter(rt)
+}
+
+/// The piles with a turned set on top. A function for each top layer, as the sets of one function all have their place on its stack.
+fn show_turned(rt: &HostRuntime) -> Result<(), Failure> {
     let pile = turned(pinned(renumbered(bottom()?)?)?)?;
     show(rt, pile, &orders::TURNED_PINNED_RENUMBERED)?;
     let pile = turned(renumbered(pinned(bottom()?)?)?)?;
-    show(rt, pile, &orders::TURNED_RENUMBERED_PINNED)?;
+    show(rt, pile, &orders::TURNED_RENUMBERED_PINNED)
+}
+
+/// The piles with a pinned set on top.
+fn show_pinned(rt: &HostRuntime) -> Result<(), Failure> {
     let pile = pinned(turned(renumbered(bottom()?)?)?)?;
     show(rt, pile, &orders::PINNED_TURNED_RENUMBERED)?;
     let pile = pinned(renumbered(turned(bottom()?)?)?)?;
-    show(rt, pile, &orders::PINNED_RENUMBERED_TURNED)?;
+    show(rt, pile, &orders::PINNED_RENUMBERED_TURNED)
+}
+
+/// The piles with a renumbered set on top.
+fn show_renumbered(rt: &HostRuntime) -> Result<(), Failure> {
     let pile = renumbered(turned(pinned(bottom()?)?)?)?;
     show(rt, pile, &orders::RENUMBERED_TURNED_PINNED)?;
     let pile = renumbered(pinned(turned(bottom()?)?)?)?;
-    show(rt, pile, &orders::RENUMBERED_PINNED_TURNED)?;
-    show_calls(rt)?;
-    show_letter(rt)
+    show(rt, pile, &orders::RENUMBERED_PINNED_TURNED)
 }
 
 /// Plans a pile, and a listed set of its members, and shows what each chose.
